@@ -1,23 +1,17 @@
 -- The signers of a consensus are one set, and so its report is one text.
-use Rattle.std.proofs.Common.{◌≡◌, ℕ, Bool, true, false, ◌&&◌, List, [], ◌∷◌, Option, Some, None, map}
-use Rattle.std.proofs.Common.{refl, sym, ap, ◌∙◌, subst, inl, inr}
-use Rattle.std.specs.Prelude.{◌⊎◌, Contains, slice_range}
-use Rattle.std.specs.List.{list_any, flat_map}
-use Rattle.std.specs.Str.{bytes_eq}
-use Rattle.std.proofs.lemmas.Bool.{and_from, and_parts}
-use Rattle.std.proofs.lemmas.List.Folds.{Any-from_list_any, list_any_at}
+use Rattle.std.proofs.Common.{◌≡◌, ℕ, Bool, true, false, ◌&&◌, List, [], ◌∷◌, Option, Some, None, map, refl, sym, ap}
+use Rattle.std.proofs.{Common.{◌∙◌, subst, inl, inr}, lemmas.{Bool.{and_from, and_parts}, List.Folds.Any-from_list_any}}
+use Rattle.std.{proofs.lemmas.List.Folds.list_any_at, specs.{Prelude.{◌⊎◌, Contains, slice_range}, List.list_any}}
+use Rattle.std.specs.{List.flat_map, Str.bytes_eq}
 use Rattle.sha1.specs.Sha1.{sha1}
 use Rattle.key_port.specs.Answers.{Rules, ExactlyOneHolds}
-use Rattle.vote_terms.specs.Votes.{ReadVote}
-use Rattle.vote_terms.proofs.HeldLaw.{held_agree}
+use Rattle.vote_terms.{specs.Votes.ReadVote, proofs.HeldLaw.held_agree}
 use Rattle.consensus_terms.specs.declared.consensus.SignedConsensus.{SignedConsensus}
 use Rattle.consensus_terms.specs.declared.signature.SignatureLine.{SignatureLine}
-use Rattle.detached_sigs.specs.declared.key.SignerKey.{SignerKey}
-use Rattle.detached_sigs.specs.Signers.{AreSigners, has_good_line, has_bad_lines}
-use Rattle.health_report.specs.Signers.{SignedPart, key_of, sha1_lines}
-use Rattle.health_report.specs.Reports.{IsReport, has_signer, members_of, report_text, signer_line, signer_lines}
-use Rattle.answer_laws.proofs.OneAnswer.{clash}
-use Rattle.answer_laws.specs.Agreement.{ReportsAgree, OrderIsFree}
+use Rattle.detached_sigs.specs.{declared.key.SignerKey.SignerKey, Signers.{AreSigners, has_good_line, has_bad_lines}}
+use Rattle.health_report.specs.{Signers.{SignedPart, key_of, sha1_lines}, Reports.{IsReport, has_signer, members_of}}
+use Rattle.health_report.specs.Reports.{report_text, signer_line, signer_lines}
+use Rattle.answer_laws.{proofs.OneAnswer.clash, specs.Agreement.{ReportsAgree, OrderIsFree}}
 
 -- ---- the signers
 

@@ -1,9 +1,7 @@
 -- The words of what is held tell which votes are.
-use Rattle.std.proofs.Common.{◌≡◌, ℕ, ◌<◌, ◌≤◌, List, [], ◌∷◌, ◌++◌, length, zero, suc, refl, sym, ap, ◌∙◌, subst, ⊎_elim, arith}
-use Rattle.std.specs.Prelude.{Contains}
-use Rattle.vote_terms.specs.Votes.{ReadVote}
-use Rattle.vote_terms.specs.Held.{IsHeld}
-use Rattle.vote_terms.proofs.HeldLaw.{In, in_from}
+use Rattle.std.proofs.Common.{◌≡◌, ℕ, ◌<◌, ◌≤◌, List, [], ◌∷◌, ◌++◌, length, zero, suc, refl, sym, ap, ◌∙◌, subst}
+use Rattle.std.{proofs.Common.{⊎_elim, arith}, specs.Prelude.Contains}
+use Rattle.vote_terms.{specs.{Votes.ReadVote, Held.IsHeld}, proofs.HeldLaw.{In, in_from}}
 use Rattle.answer_laws.specs.Deliveries.{HeldAlike}
 
 -- a vote that stands in a list, with what stands before it and behind it

@@ -1,19 +1,15 @@
 -- What keeping a descriptor answers, by what is held of its relay, and how many are held then.
-use Rattle.std.proofs.Common.{◌≡◌, ℕ, ◌+◌, ◌<◌, ◌≤◌, Bool, true, false, List, length, Option, Some, None, refl, sym, ap, ◌∙◌, arith}
-use Rattle.std.specs.Prelude.{nat_eq, nat_le, is_some, option_map, if◌then◌else◌}
-use Rattle.std.proofs.lemmas.Bool.Decides.{nat_tests}
-use Rattle.std.proofs.lemmas.List.{length-set}
-use Rattle.std.proofs.lemmas.List.Edits.{length-insert}
-use Rattle.std.proofs.lemmas.List.Sums.{prefix_len-le-length}
+use Rattle.std.proofs.Common.{◌≡◌, ℕ, ◌+◌, ◌<◌, ◌≤◌, Bool, true, false, List, length, Option, Some, None, refl, sym, ap}
+use Rattle.std.proofs.{Common.{◌∙◌, arith}, lemmas.{Bool.Decides.nat_tests, List.{length-set, Edits.length-insert}}}
+use Rattle.std.{proofs.lemmas.List.Sums.prefix_len-le-length, specs.Prelude.{nat_eq, nat_le, is_some, option_map}}
+use Rattle.std.specs.Prelude.{if◌then◌else◌}
 use Rattle.dir_values.specs.Digests.{identity_below}
 use Rattle.descriptor_doc.specs.declared.descriptor.Descriptor.{Descriptor}
-use Rattle.vote_pool.specs.Lending.{len_after, place_of, put_at, rank_at}
-use Rattle.vote_pool.specs.Pools.{DescriptorsAscend, Pooled, answer_beside, answer_for, answer_to, answer_to_new}
-use Rattle.vote_pool.specs.Pools.{descriptor_for, descriptors_with, is_change, most_changes, most_relays, pool_after}
-use Rattle.vote_pool.specs.Ranks.{is_newer, is_same_rank, rank_of_descriptor}
-use Rattle.vote_pool.specs.declared.rank.DescriptorRank.{DescriptorRank}
-use Rattle.vote_pool.proofs.Greatest.{other_newer}
-use Rattle.vote_pool.proofs.Placing.{stands}
+use Rattle.vote_pool.specs.{Lending.{len_after, place_of, put_at, rank_at}, Pools.{DescriptorsAscend, Pooled}}
+use Rattle.vote_pool.specs.Pools.{answer_beside, answer_for, answer_to, answer_to_new, descriptor_for, descriptors_with}
+use Rattle.vote_pool.specs.{Pools.{is_change, most_changes, most_relays, pool_after}, Ranks.{is_newer, is_same_rank}}
+use Rattle.vote_pool.specs.{Ranks.rank_of_descriptor, declared.rank.DescriptorRank.DescriptorRank}
+use Rattle.vote_pool.proofs.{Greatest.other_newer, Placing.stands}
 use Rattle.answer_laws.proofs.RankOrder.{newer_back, newer_same}
 
 -- what keeping a descriptor comes to

@@ -1,17 +1,12 @@
 -- A relay that no entry belongs to has neither `Running` nor `MiddleOnly`.
 use Rattle.std.proofs.Common.{◌≡◌, ℕ, Bool, true, false, cond, ◌&&◌, List, [], ◌∷◌, refl, sym, ap, ◌∙◌, arith}
-use Rattle.std.specs.Prelude.{codes, filter}
-use Rattle.std.specs.Str.{bytes_eq}
+use Rattle.std.{proofs.lemmas.Bool.{false≢true, Decides.nat_tests}, specs.{Prelude.{codes, filter}, Str.bytes_eq}}
 use Rattle.std.specs.Cmp.Lexicographic.{bytes_decides}
-use Rattle.std.proofs.lemmas.Bool.{false≢true}
-use Rattle.std.proofs.lemmas.Bool.Decides.{nat_tests}
-use Rattle.dir_values.specs.FlagSets.{has_flag}
-use Rattle.dir_values.proofs.Flags.{has_flag-as_set}
+use Rattle.dir_values.{specs.FlagSets.has_flag, proofs.Flags.has_flag-as_set}
 use Rattle.vote_terms.specs.Votes.{ReadVote}
 use Rattle.count_terms.specs.Counts.{over}
-use Rattle.compute_terms.specs.declared.identity.EdPart.{EdPart}
-use Rattle.compute_terms.specs.Flags.{known_flags}
-use Rattle.compute_terms.specs.RelayFlags.{knowing_count, is_set, set_flags, middle_flags, adjusted_flags, router_flags, is_running_and_valid}
+use Rattle.compute_terms.specs.{declared.identity.EdPart.EdPart, Flags.known_flags, RelayFlags.{knowing_count, is_set}}
+use Rattle.compute_terms.specs.RelayFlags.{set_flags, middle_flags, adjusted_flags, router_flags, is_running_and_valid}
 
 never : (n : ℕ) → over 0 n ≡ false
 never n = grind (arith, nat_tests)

@@ -1,23 +1,15 @@
 -- The consensus of few votes lists few relays: each is of an entry of some vote, and each once.
-use Rattle.std.proofs.Common.{◌≡◌, ℕ, suc, ◌+◌, ◌*◌, ◌<◌, ◌≤◌, Bool, true, false, List, [], ◌∷◌, length}
-use Rattle.std.proofs.Common.{Option, Some, None, arith}
-use Rattle.std.specs.Prelude.{All, ◌^◌, if◌then◌else◌}
-use Rattle.std.specs.List.{cons_option, filter_map, flat_map, fold}
-use Rattle.std.proofs.lemmas.List.{length-append, length-map}
-use Rattle.std.proofs.lemmas.List.Elements.{All-head, All-tail, All-weaker}
-use Rattle.dir_values.specs.Digests.{identity_below}
-use Rattle.dir_values.specs.FlagSets.{as_set}
-use Rattle.dir_values.specs.declared.digest.Fingerprint.{Fingerprint}
-use Rattle.vote_terms.specs.Held.{held, outranks, votes_with, same_authority}
-use Rattle.vote_terms.specs.Votes.{ReadVote}
+use Rattle.std.proofs.Common.{◌≡◌, ℕ, suc, ◌+◌, ◌*◌, ◌<◌, ◌≤◌, Bool, true, false, List, [], ◌∷◌, length, Option, Some}
+use Rattle.std.proofs.{Common.{None, arith}, lemmas.List.{length-append, length-map, Elements.{All-head, All-tail}}}
+use Rattle.std.{proofs.lemmas.List.Elements.All-weaker, specs.{Prelude.{All, ◌^◌, if◌then◌else◌}, List.cons_option}}
+use Rattle.std.specs.List.{filter_map, flat_map, fold}
+use Rattle.dir_values.specs.{Digests.identity_below, FlagSets.as_set, declared.digest.Fingerprint.Fingerprint}
+use Rattle.vote_terms.specs.{Held.{held, outranks, votes_with, same_authority}, Votes.ReadVote}
 use Rattle.vote_terms.specs.declared.entry.EntryFacts.{EntryFacts}
-use Rattle.compute_terms.specs.Consensuses.{facts_of}
-use Rattle.compute_terms.specs.Listings.{identities_in, identities_of}
-use Rattle.compute_terms.specs.Routers.{router_of, routers}
-use Rattle.range_laws.proofs.ReadNames.{count_of_set}
-use Rattle.range_laws.proofs.VoteRead.{vote_in_range}
-use Rattle.answer_laws.specs.Inputs.{InputsAreVotes}
-use Rattle.answer_laws.specs.Relays.{RelaysOfInputsAreFew, RelaysOfVotesAreFew, WasRead}
+use Rattle.compute_terms.specs.{Consensuses.facts_of, Listings.{identities_in, identities_of}, Routers.router_of}
+use Rattle.compute_terms.specs.Routers.{routers}
+use Rattle.range_laws.proofs.{ReadNames.count_of_set, VoteRead.vote_in_range}
+use Rattle.answer_laws.specs.{Inputs.InputsAreVotes, Relays.{RelaysOfInputsAreFew, RelaysOfVotesAreFew, WasRead}}
 use Rattle.answer_laws.proofs.VotesRead.{held_all, standing_all}
 
 -- ---- lists

@@ -1,14 +1,12 @@
 -- What is held of each relay is the newest of its own, whatever came.
-use Rattle.std.proofs.Common.{◌≡◌, ℕ, zero, suc, ◌+◌, ◌<◌, ◌≤◌, ◌⊎◌, inl, inr, ⊎_elim, List, [], ◌∷◌}
-use Rattle.std.proofs.Common.{length, get_or, Option, Some, None, sym, subst, arith}
-use Rattle.std.specs.Prelude.{Contains}
-use Rattle.std.specs.List.{fold}
+use Rattle.std.proofs.Common.{◌≡◌, ℕ, zero, suc, ◌+◌, ◌<◌, ◌≤◌, ◌⊎◌, inl, inr, ⊎_elim, List, [], ◌∷◌, length, get_or}
+use Rattle.std.{proofs.Common.{Option, Some, None, sym, subst, arith}, specs.{Prelude.Contains, List.fold}}
 use Rattle.dir_values.specs.declared.digest.Fingerprint.{Fingerprint}
 use Rattle.descriptor_doc.specs.declared.descriptor.Descriptor.{Descriptor}
 use Rattle.vote_pool.specs.Pools.{Pooled, descriptor_for, most_changes, pool_after}
 use Rattle.answer_laws.specs.Newest.{AreNewest, AscendAndFit, IsNewest, NewestAreHeld, PoolRanksAgree, pool_of}
-use Rattle.answer_laws.proofs.Answers.{changes_once}
-use Rattle.answer_laws.proofs.OneMoreHeld.{fits_after, none_fit, Also, newest_after_one_descriptor}
+use Rattle.answer_laws.proofs.{Answers.changes_once, OneMoreHeld.{fits_after, none_fit, Also}}
+use Rattle.answer_laws.proofs.OneMoreHeld.{newest_after_one_descriptor}
 
 -- ---- all that came
 

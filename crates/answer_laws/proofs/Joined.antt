@@ -1,13 +1,9 @@
 -- What is held of two lists is held of the votes that are held of each.
-use Rattle.std.proofs.Common.{◌≡◌, ◌⊎◌, Bool, true, false, List, [], ◌∷◌, ◌++◌, refl, sym, ap, ◌∙◌, subst, inl, inr, ⊎_elim}
-use Rattle.std.specs.Prelude.{Contains}
-use Rattle.std.proofs.lemmas.Bool.{false≢true}
-use Rattle.vote_terms.specs.Votes.{ReadVote, rank_of}
-use Rattle.vote_terms.specs.Held.{IsHeld, held, outranks}
-use Rattle.vote_terms.proofs.HeldLaw.{In, held_law, in_from, in_to}
-use Rattle.vote_terms.proofs.Orders.{above_other}
-use Rattle.answer_laws.specs.Deliveries.{HeldOfLists}
-use Rattle.answer_laws.proofs.Alike.{found, longer}
+use Rattle.std.proofs.Common.{◌≡◌, ◌⊎◌, Bool, true, false, List, [], ◌∷◌, ◌++◌, refl, sym, ap, ◌∙◌, subst, inl, inr}
+use Rattle.std.{proofs.{Common.⊎_elim, lemmas.Bool.false≢true}, specs.Prelude.Contains}
+use Rattle.vote_terms.{specs.{Votes.{ReadVote, rank_of}, Held.{IsHeld, held, outranks}}, proofs.HeldLaw.{In, held_law}}
+use Rattle.vote_terms.proofs.{HeldLaw.{in_from, in_to}, Orders.above_other}
+use Rattle.answer_laws.{specs.Deliveries.HeldOfLists, proofs.Alike.{found, longer}}
 
 in_both : (l m : List ReadVote) (v : ReadVote) → In v l ⊎ In v m → In v (l ++ m)
 in_both [] m v i = ⊎_elim (λ (j : ⊥). absurd j) (λ j. j) i

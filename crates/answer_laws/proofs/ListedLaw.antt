@@ -1,37 +1,22 @@
 -- An RSA identity stands among the routers exactly where it is included and its flags have `Running` and `Valid`.
-use Rattle.std.proofs.Common.{◌≡◌, ℕ, Bool, true, false, ◌&&◌, ◌||◌, List, [], ◌∷◌, Option, Some, None, map, refl, sym, ap, ◌∙◌}
-use Rattle.std.specs.Prelude.{is_some, option_map, option_and_then, if◌then◌else◌}
-use Rattle.std.specs.Option.{option_map_or}
-use Rattle.std.specs.List.{find, fold, filter_map, flat_map, list_any}
-use Rattle.std.specs.Str.{bytes_eq}
-use Rattle.std.specs.Cmp.{IsTotalOrder}
-use Rattle.std.specs.Cmp.Lexicographic.{bytes_decides}
-use Rattle.std.specs.declared.cmp.Ordering.{Ordering}
+use Rattle.std.proofs.Common.{◌≡◌, ℕ, Bool, true, false, ◌&&◌, ◌||◌, List, [], ◌∷◌, Option, Some, None, map, refl, sym}
+use Rattle.std.proofs.{Common.{ap, ◌∙◌}, lemmas.{Bool.{and_right, false≢true, or_parts}, Option.same_Some}}
+use Rattle.std.{proofs.lemmas.List.Folds.list_any-append, specs.Prelude.{is_some, option_map, option_and_then}}
+use Rattle.std.specs.{Prelude.if◌then◌else◌, Option.option_map_or, List.{find, fold, filter_map, flat_map, list_any}}
+use Rattle.std.specs.{Str.bytes_eq, Cmp.{IsTotalOrder, Lexicographic.bytes_decides}, declared.cmp.Ordering.Ordering}
 use Rattle.std.specs.declared.cmp.Ordering.TheVariants.{Equal}
-use Rattle.std.proofs.lemmas.Bool.{and_right, false≢true, or_parts}
-use Rattle.std.proofs.lemmas.Option.{same_Some}
-use Rattle.std.proofs.lemmas.List.Folds.{list_any-append}
-use Rattle.dir_values.specs.declared.digest.Fingerprint.{Fingerprint}
-use Rattle.dir_values.specs.Digests.{same_identity}
-use Rattle.dir_values.specs.FlagSets.{has_flag, as_set}
-use Rattle.dir_values.proofs.Flags.{has_flag-as_set}
-use Rattle.vote_terms.specs.Votes.{ReadVote}
-use Rattle.vote_terms.specs.declared.entry.EntryFacts.{EntryFacts}
-use Rattle.count_terms.specs.Choosing.{outdoes, chosen}
-use Rattle.count_terms.specs.declared.newest.Newest.{Newest}
-use Rattle.field_votes.specs.Leading.{after}
-use Rattle.field_votes.proofs.Leaders.{leader_is_chosen}
+use Rattle.dir_values.specs.{declared.digest.Fingerprint.Fingerprint, Digests.same_identity, FlagSets.has_flag}
+use Rattle.dir_values.{specs.FlagSets.as_set, proofs.Flags.has_flag-as_set}
+use Rattle.vote_terms.specs.{Votes.ReadVote, declared.entry.EntryFacts.EntryFacts}
+use Rattle.count_terms.specs.{Choosing.{outdoes, chosen}, declared.newest.Newest.Newest}
+use Rattle.field_votes.{specs.Leading.after, proofs.Leaders.leader_is_chosen}
 use Rattle.consensus_terms.specs.declared.router.Routerline.{Routerline}
-use Rattle.compute_terms.specs.declared.identity.EdPart.{EdPart}
-use Rattle.compute_terms.specs.Listings.{Listing, listings, identities_of, identities_in, entries_of}
-use Rattle.compute_terms.specs.Identities.{eds_of, included_part}
-use Rattle.compute_terms.specs.RelayFlags.{router_flags, is_running_and_valid}
-use Rattle.compute_terms.specs.Tuples.{Tuple, tuple_of, tuple_order, chosen_tuple}
+use Rattle.compute_terms.specs.{declared.identity.EdPart.EdPart, Listings.{Listing, listings, identities_of}}
+use Rattle.compute_terms.specs.{Listings.{identities_in, entries_of}, Identities.{eds_of, included_part}}
+use Rattle.compute_terms.specs.{RelayFlags.{router_flags, is_running_and_valid}, Tuples.{Tuple, tuple_of, tuple_order}}
+use Rattle.compute_terms.specs.{Tuples.chosen_tuple, Bandwidths.cap_of, Lists.listed_params, Routers.routerline_of}
+use Rattle.compute_terms.specs.{Routers.{belonging_listings, router_as, router_of}, Methods.chosen_method}
 use Rattle.bandwidth_rules.specs.Limits.{unmeasured_limit}
-use Rattle.compute_terms.specs.Bandwidths.{cap_of}
-use Rattle.compute_terms.specs.Lists.{listed_params}
-use Rattle.compute_terms.specs.Routers.{routerline_of, belonging_listings, router_as, router_of}
-use Rattle.compute_terms.specs.Methods.{chosen_method}
 use Rattle.relay_select.specs.TupleOrder.{tuple_total, tuple_ties}
 use Rattle.answer_laws.specs.Listed.{has_router, is_listed_relay, ListedRelaysAreListed}
 use Rattle.answer_laws.proofs.EmptyFlags.{not_running}

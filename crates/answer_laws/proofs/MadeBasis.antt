@@ -1,29 +1,21 @@
 -- Of what `make-vote` makes a vote is such as the laws of made votes ask for.
-use Rattle.std.proofs.Common.{◌≡◌, ℕ, ◌≤◌, List, [], ◌∷◌, drop, length, Result, Ok, Err}
-use Rattle.std.proofs.Common.{refl, sym, ap, ◌∙◌, subst, arith}
-use Rattle.std.specs.Prelude.{All}
-use Rattle.std.specs.List.{fold}
-use Rattle.std.proofs.lemmas.List.Elements.{All-cons, All-nil}
+use Rattle.std.proofs.Common.{◌≡◌, ℕ, ◌≤◌, List, [], ◌∷◌, drop, length, Result, Ok, Err, refl, sym, ap, ◌∙◌, subst}
+use Rattle.std.{proofs.{Common.arith, lemmas.List.Elements.{All-cons, All-nil}}, specs.{Prelude.All, List.fold}}
 use Rattle.base64.specs.GeneralPurpose.{IsBytes}
 use Rattle.count_terms.specs.declared.newest.Newest.{Newest}
 use Rattle.key_port.specs.Answers.{Rules}
 use Rattle.frame_terms.specs.declared.fault.ReadRefusal.{ReadRefusal}
-use Rattle.descriptor_doc.specs.Reading.{descriptor_under}
-use Rattle.descriptor_doc.specs.declared.descriptor.Descriptor.{Descriptor}
+use Rattle.descriptor_doc.specs.{Reading.descriptor_under, declared.descriptor.Descriptor.Descriptor}
 use Rattle.vote_pool.specs.Pools.{DescriptorsAscend, Pooled, most_relays, pool_after}
-use Rattle.answer_laws.specs.Newest.{AscendAndFit, pool_of}
-use Rattle.answer_laws.proofs.OneMoreHeld.{pools_ascend}
-use Rattle.answer_laws.proofs.Members.{all_held}
-use Rattle.dir_bytes.specs.Causes.{last_moment}
-use Rattle.vote_schedule.specs.Moments.{valid_until}
-use Rattle.vote_schedule.specs.Schedules.{IsSchedule}
+use Rattle.answer_laws.{specs.Newest.{AscendAndFit, pool_of}, proofs.{OneMoreHeld.pools_ascend, Members.all_held}}
 use Rattle.answer_laws.proofs.Sound.{schedules_such}
+use Rattle.dir_bytes.specs.Causes.{last_moment}
+use Rattle.vote_schedule.specs.{Moments.valid_until, Schedules.IsSchedule}
 use Rattle.station_input.specs.declared.facts.StationFacts.{StationFacts}
 use Rattle.vote_maker.specs.Made.{Basis, schedule_in}
 use Rattle.row_laws.proofs.ReadBytes.{bytes_drop}
 use Rattle.maker_laws.specs.Given.{IsBasis, IsDescriptor, IsStation}
-use Rattle.station_commands.specs.Descriptors.{IsPoolOf, Stand, found_from, no_pool, pool_with}
-use Rattle.station_commands.specs.Voting.{IsBasisOf}
+use Rattle.station_commands.specs.{Descriptors.{IsPoolOf, Stand, found_from, no_pool, pool_with}, Voting.IsBasisOf}
 
 -- ---- the descriptors
 

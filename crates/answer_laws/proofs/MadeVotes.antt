@@ -1,30 +1,24 @@
 -- The text that `make-vote` answers is read as the vote that was made.
-use Rattle.std.proofs.Common.{◌≡◌, ℕ, ◌+◌, List, [], ◌++◌, drop, take, length, Result, Ok, Err}
-use Rattle.std.proofs.Common.{◌≤◌, refl, sym, ap, ◌∙◌, subst, inl, inr, arith}
-use Rattle.std.proofs.lemmas.List.{append-nil, length-map}
+use Rattle.std.proofs.Common.{◌≡◌, ℕ, ◌+◌, List, [], ◌++◌, drop, take, length, Result, Ok, Err, ◌≤◌, refl, sym, ap, ◌∙◌}
+use Rattle.std.proofs.{Common.{subst, inl, inr, arith}, lemmas.List.{append-nil, length-map}}
 use Rattle.base64.specs.GeneralPurpose.{IsBytes}
-use Rattle.key_port.specs.Answers.{Relation, Rules}
-use Rattle.key_port.specs.Signing.{SignerSteps}
+use Rattle.key_port.specs.{Answers.{Relation, Rules}, Signing.SignerSteps}
 use Rattle.frame_terms.specs.declared.fault.ReadRefusal.{ReadRefusal}
 use Rattle.bandwidth_file.specs.declared.file.BandFile.{BandFile}
 use Rattle.flag_rules.specs.declared.ruling.Ruling.{Ruling}
 use Rattle.count_terms.specs.declared.newest.Newest.{Newest}
-use Rattle.station_input.specs.Reading.{station_of}
-use Rattle.station_input.specs.declared.facts.StationFacts.{StationFacts}
+use Rattle.station_input.specs.{Reading.station_of, declared.facts.StationFacts.StationFacts}
 use Rattle.vote_terms.specs.Votes.{max_vote}
 use Rattle.vote_doc.specs.Reading.{vote_of}
-use Rattle.vote_maker.specs.Made.{Basis}
-use Rattle.vote_maker.specs.Relays.{known_of}
+use Rattle.vote_maker.specs.{Made.Basis, Relays.known_of}
 use Rattle.descriptor_laws.proofs.DescriptorInRange.{descriptors_in_range}
 use Rattle.row_laws.proofs.ReadBytes.{bytes_drop}
 use Rattle.vote_laws.proofs.Pairs.{from_start}
-use Rattle.maker_laws.specs.Given.{IsBasis, IsStation}
-use Rattle.maker_laws.specs.FileVotes.{IsToldStation}
-use Rattle.maker_laws.specs.ReadAsMade.{IsSigning, signed_made_text}
-use Rattle.maker_laws.proofs.FileVotes.{told_stations}
-use Rattle.maker_laws.proofs.MadeRead.{read_as_made, stations_read}
-use Rattle.station_commands.specs.Voting.{IsVoteOf, VoteAnswers}
-use Rattle.station_commands.specs.WithFile.{BeginsWithFile, station_behind, told_from, told_station}
+use Rattle.maker_laws.specs.{Given.{IsBasis, IsStation}, FileVotes.IsToldStation, ReadAsMade.IsSigning}
+use Rattle.maker_laws.{specs.ReadAsMade.signed_made_text, proofs.{FileVotes.told_stations, MadeRead.read_as_made}}
+use Rattle.maker_laws.proofs.MadeRead.{stations_read}
+use Rattle.station_commands.specs.{Voting.{IsVoteOf, VoteAnswers}, WithFile.{BeginsWithFile, station_behind, told_from}}
+use Rattle.station_commands.specs.WithFile.{told_station}
 use Rattle.answer_laws.specs.MadeVotes.{AnsweredFileVotesAreRead, AnsweredVotesAreRead, IsReadAsMade, IsVoteRead}
 use Rattle.answer_laws.proofs.MadeBasis.{of_basis}
 

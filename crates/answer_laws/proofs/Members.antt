@@ -1,8 +1,7 @@
 -- What holds of each descriptor that is kept holds of each that is held.
 use Rattle.std.proofs.Common.{◌≡◌, Bool, true, false, List, [], ◌∷◌, filter, sym, subst, refl}
-use Rattle.std.specs.Prelude.{All}
+use Rattle.std.{proofs.lemmas.List.Elements.{All-append, All-cons, All-filter, All-head, All-tail}, specs.Prelude.All}
 use Rattle.std.specs.List.{fold}
-use Rattle.std.proofs.lemmas.List.Elements.{All-append, All-cons, All-filter, All-head, All-tail}
 use Rattle.dir_values.specs.Digests.{identity_below}
 use Rattle.descriptor_doc.specs.declared.descriptor.Descriptor.{Descriptor}
 use Rattle.vote_pool.specs.Pools.{Pooled, answer_to, descriptors_with, is_change, pool_after}

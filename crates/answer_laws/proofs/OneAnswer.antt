@@ -1,11 +1,11 @@
 -- Where a verifier may give one answer alone, a key has a line that may be accepted or none that may not be refused.
-use Rattle.std.proofs.Common.{◌≡◌, ℕ, Bool, true, false, not, ◌&&◌, ◌||◌, List, [], ◌∷◌}
-use Rattle.std.proofs.lemmas.Bool.{false≢true, true≢false}
+use Rattle.std.proofs.{Common.{◌≡◌, ℕ, Bool, true, false, not, ◌&&◌, ◌||◌, List, [], ◌∷◌}, lemmas.Bool.false≢true}
+use Rattle.std.proofs.lemmas.Bool.{true≢false}
 use Rattle.key_port.specs.Answers.{Rules, ExactlyOneHolds}
 use Rattle.key_port.specs.declared.verifier.KeyKind.TheVariants as kind
 use Rattle.consensus_terms.specs.declared.signature.SignatureLine.{SignatureLine}
-use Rattle.detached_sigs.specs.declared.key.SignerKey.{SignerKey}
-use Rattle.detached_sigs.specs.Signers.{has_good_line, has_bad_lines, is_line_of, is_signed}
+use Rattle.detached_sigs.specs.{declared.key.SignerKey.SignerKey, Signers.{has_good_line, has_bad_lines, is_line_of}}
+use Rattle.detached_sigs.specs.Signers.{is_signed}
 
 line_clash : (of accepts refuses any all : Bool) → refuses ≡ not accepts → (any ≡ true → all ≡ true → ⊥)
     → (of && accepts || any) ≡ true → ((not of || refuses) && all) ≡ true → ⊥

@@ -1,22 +1,16 @@
 -- What is held ascends and is no more than may be, and what is held of each relay after one descriptor more.
-use Rattle.std.proofs.Common.{◌≡◌, ℕ, ◌<◌, ◌≤◌, ◌⊎◌, inl, inr, ⊎_elim, Bool, true, false, List, [], ◌∷◌}
-use Rattle.std.proofs.Common.{length, Option, Some, None, refl, sym, ap, ◌∙◌, subst, arith}
-use Rattle.std.specs.Prelude.{nat_eq}
-use Rattle.std.specs.List.{find, fold}
+use Rattle.std.proofs.Common.{◌≡◌, ℕ, ◌<◌, ◌≤◌, ◌⊎◌, inl, inr, ⊎_elim, Bool, true, false, List, [], ◌∷◌, length, Option}
+use Rattle.std.proofs.{Common.{Some, None, refl, sym, ap, ◌∙◌, subst, arith}, lemmas.Bool.false≢true}
+use Rattle.std.{proofs.lemmas.{Bool.Decides.nat_tests, Option.none-some}, specs.{Prelude.nat_eq, List.{find, fold}}}
 use Rattle.std.specs.Str.{bytes_eq}
-use Rattle.std.proofs.lemmas.Bool.{false≢true}
-use Rattle.std.proofs.lemmas.Bool.Decides.{nat_tests}
-use Rattle.std.proofs.lemmas.Option.{none-some}
-use Rattle.dir_values.specs.Digests.{identity_below, same_identity}
-use Rattle.dir_values.specs.declared.digest.Fingerprint.{Fingerprint}
+use Rattle.dir_values.specs.{Digests.{identity_below, same_identity}, declared.digest.Fingerprint.Fingerprint}
 use Rattle.dir_values.proofs.Orders.{AllPairs-nil, same_text}
 use Rattle.descriptor_doc.specs.declared.descriptor.Descriptor.{Descriptor}
 use Rattle.vote_pool.specs.Pools.{Pooled, answer_to, descriptor_for, is_change, most_changes, most_relays, pool_after}
-use Rattle.vote_pool.specs.Ranks.{is_newer, rank_of_descriptor}
-use Rattle.vote_pool.proofs.Greatest.{changes_are_held, others_stay}
+use Rattle.vote_pool.{specs.Ranks.{is_newer, rank_of_descriptor}, proofs.Greatest.{changes_are_held, others_stay}}
 use Rattle.vote_pool.proofs.Placing.{after_ascends}
-use Rattle.answer_laws.specs.Newest.{AreNewest, AscendAndFit, IsNewest, PoolsAscend}
-use Rattle.answer_laws.proofs.Answers.{added, full, replaced, stays, worn, case, changed, len_with, unchanged}
+use Rattle.answer_laws.{specs.Newest.{AreNewest, AscendAndFit, IsNewest, PoolsAscend}, proofs.Answers.{added, full}}
+use Rattle.answer_laws.proofs.Answers.{replaced, stays, worn, case, changed, len_with, unchanged}
 use Rattle.answer_laws.proofs.RankOrder.{newer_itself, newer_not}
 
 -- a descriptor is newer than another

@@ -1,13 +1,8 @@
 -- Ranks stand in one order.
-use Rattle.std.proofs.Common.{◌≡◌, ℕ, Bool, true, false, List, refl, sym, ap, ◌∙◌, arith}
-use Rattle.std.proofs.lemmas.Bool.{false≢true}
-use Rattle.std.proofs.lemmas.Bool.Decides.{nat_tests}
-use Rattle.std.specs.Str.{bytes_eq}
-use Rattle.dir_values.specs.Digests.{bytes_below}
-use Rattle.dir_values.proofs.Orders.{below_or_same, same_text}
-use Rattle.vote_terms.specs.declared.rank.Rank.{Rank}
-use Rattle.vote_terms.specs.Votes.{is_above}
-use Rattle.vote_terms.proofs.Orders.{above_itself, above_trans}
+use Rattle.std.proofs.{Common.{◌≡◌, ℕ, Bool, true, false, List, refl, sym, ap, ◌∙◌, arith}, lemmas.Bool.false≢true}
+use Rattle.std.{proofs.lemmas.Bool.Decides.nat_tests, specs.Str.bytes_eq}
+use Rattle.dir_values.{specs.Digests.bytes_below, proofs.Orders.{below_or_same, same_text}}
+use Rattle.vote_terms.{specs.{declared.rank.Rank.Rank, Votes.is_above}, proofs.Orders.{above_itself, above_trans}}
 use Rattle.answer_laws.specs.Ranks.{RanksAreOrdered}
 
 -- bytes of which neither come before the others are the same

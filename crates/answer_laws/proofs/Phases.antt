@@ -1,10 +1,8 @@
 -- The moments of a period ascend, and each phase stands between two of them.
-use Rattle.std.proofs.Common.{◌≡◌, ℕ, Bool, true, false, refl, subst, arith}
+use Rattle.std.proofs.{Common.{◌≡◌, ℕ, Bool, true, false, refl, subst, arith}, lemmas.Bool.Decides.nat_tests}
 use Rattle.std.specs.Prelude.{nat_le}
-use Rattle.std.proofs.lemmas.Bool.Decides.{nat_tests}
 use Rattle.vote_schedule.specs.Moments.{fetching_begins, freeze, phase_of, upload_cutoff, voting_begins}
-use Rattle.vote_schedule.specs.Schedules.{Schedule}
-use Rattle.vote_schedule.specs.declared.phase.Phase.{Phase}
+use Rattle.vote_schedule.specs.{Schedules.Schedule, declared.phase.Phase.Phase}
 use Rattle.vote_schedule.specs.declared.phase.Phase.TheVariants as phase
 use Rattle.answer_laws.specs.Timeline.{Ascend, IsPhase, MomentsAscend, PhasesAreBetween}
 

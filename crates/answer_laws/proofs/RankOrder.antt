@@ -1,14 +1,9 @@
 -- Ranks of descriptors are ordered as those of votes are.
-use Rattle.std.proofs.Common.{◌≡◌, true, false, sym, ap, ◌∙◌}
-use Rattle.std.specs.Prelude.{nat_eq}
-use Rattle.std.specs.Str.{bytes_eq}
-use Rattle.std.proofs.lemmas.Bool.{and_parts, eqb-true, false≢true, false_from_ne_true}
+use Rattle.std.proofs.{Common.{◌≡◌, true, false, sym, ap, ◌∙◌}, lemmas.Bool.{and_parts, eqb-true, false≢true}}
+use Rattle.std.{proofs.lemmas.Bool.false_from_ne_true, specs.{Prelude.nat_eq, Str.bytes_eq}}
 use Rattle.dir_values.proofs.Orders.{same_text}
-use Rattle.vote_terms.specs.declared.rank.Rank.{Rank}
-use Rattle.vote_terms.specs.Votes.{is_above}
-use Rattle.vote_terms.proofs.Orders.{above_itself, above_trans}
-use Rattle.vote_pool.specs.declared.rank.DescriptorRank.{DescriptorRank}
-use Rattle.vote_pool.specs.Ranks.{is_newer, is_same_rank}
+use Rattle.vote_terms.{specs.{declared.rank.Rank.Rank, Votes.is_above}, proofs.Orders.{above_itself, above_trans}}
+use Rattle.vote_pool.specs.{declared.rank.DescriptorRank.DescriptorRank, Ranks.{is_newer, is_same_rank}}
 
 -- the rank of a vote with the same moment and the same digest
 abbrev as_rank : DescriptorRank → Rank

@@ -1,15 +1,14 @@
 -- The votes of an input of `report` that are read from a place on are those that stand there before the line.
 use Rattle.std.proofs.Common.{◌≡◌, ◌∙◌, ℕ, zero, suc, ◌≤◌, List, [], ◌∷◌, length, Option, Some, None, Result, Ok, Err}
 use Rattle.std.proofs.Common.{refl, sym, ap, arith}
-use Rattle.item_terms.specs.Items.{Item, items_from, no_limit}
-use Rattle.item_terms.specs.declared.fault.DocFault.{DocFault}
-use Rattle.frame_terms.specs.declared.fault.FrameFault.{FrameFault}
-use Rattle.frame_terms.specs.declared.fault.ReadRefusal.{ReadRefusal}
+use Rattle.item_terms.specs.{Items.{Item, items_from, no_limit}, declared.fault.DocFault.DocFault}
+use Rattle.frame_terms.specs.declared.fault.{FrameFault.FrameFault, ReadRefusal.ReadRefusal}
 use Rattle.frame_terms.specs.declared.fault.ReadRefusal.TheVariants as read
 use Rattle.vote_terms.specs.Votes.{ReadVote}
 use Rattle.vote_doc.specs.Reading.{vote_from}
 use Rattle.report_command.specs.Inputs.{ahead_at, by_ahead, by_first, first_at, line_place, most_votes, of_vote}
-use Rattle.report_command.specs.Inputs.{one_too_many, then_votes, too_many, unless_line, votes_from, votes_of, with_front}
+use Rattle.report_command.specs.Inputs.{one_too_many, then_votes, too_many, unless_line, votes_from, votes_of}
+use Rattle.report_command.specs.Inputs.{with_front}
 use Rattle.answer_laws.specs.ReportInputs.{AreVotesBefore, IsLineAt, IsOther, ReportInputsAreVotes}
 
 -- the type of a value, where one of its parts is named in its own crate alone

@@ -1,10 +1,7 @@
 -- Three numbers that pass the tests of a schedule are one.
 use Rattle.std.proofs.Common.{◌≡◌, ◌==◌, ℕ, ◌+◌, ◌*◌, ◌%◌, ◌<◌, ◌≤◌, ◌⊎◌, Bool, true, false, ◌||◌, Result, Ok, Err}
-use Rattle.std.proofs.Common.{refl, sym, ap, ◌∙◌, subst, ⊎_elim, inl, inr, arith}
-use Rattle.std.specs.Prelude.{nat_le, nat_lt, not}
-use Rattle.std.proofs.Math.Nat.{mod-eq_of_lt}
-use Rattle.std.proofs.lemmas.Bool.{or_parts}
-use Rattle.std.proofs.lemmas.Bool.Decides.{nat_tests}
+use Rattle.std.proofs.{Common.{refl, sym, ap, ◌∙◌, subst, ⊎_elim, inl, inr, arith}, Math.Nat.mod-eq_of_lt}
+use Rattle.std.{proofs.lemmas.Bool.{or_parts, Decides.nat_tests}, specs.Prelude.{nat_le, nat_lt, not}}
 use Rattle.vote_schedule.specs.Schedules.{IsSchedule, Schedule, day, schedule_of}
 use Rattle.vote_schedule.specs.declared.config.ScheduleFault.{ScheduleFault}
 use Rattle.answer_laws.specs.Timeline.{SchedulesAreSuch}

@@ -1,9 +1,11 @@
 -- The votes that are read from a place on are those that stand there.
-use Rattle.std.proofs.Common.{◌≡◌, ◌≢◌, ℕ, zero, suc, ◌≤◌, List, [], ◌∷◌, length, Option, Some, None, Result, Ok, Err, refl, ap, ◌∙◌, arith}
+use Rattle.std.proofs.Common.{◌≡◌, ◌≢◌, ℕ, zero, suc, ◌≤◌, List, [], ◌∷◌, length, Option, Some, None, Result, Ok, Err}
+use Rattle.std.proofs.Common.{refl, ap, ◌∙◌, arith}
 use Rattle.frame_terms.specs.declared.fault.ReadRefusal.{ReadRefusal}
 use Rattle.vote_terms.specs.Votes.{ReadVote}
 use Rattle.vote_doc.specs.Reading.{vote_from}
-use Rattle.compute_command.specs.Votes.{most_votes, one_more, then_votes, unless_end, unless_more, votes_from, with_front}
+use Rattle.compute_command.specs.Votes.{most_votes, one_more, then_votes, unless_end, unless_more, votes_from}
+use Rattle.compute_command.specs.Votes.{with_front}
 use Rattle.answer_laws.specs.Inputs.{AreVotes, InputsAreVotes}
 
 -- ---- what is read stands there

@@ -1,23 +1,17 @@
 -- What is computed of an input of bytes is read again.
-use Rattle.std.proofs.Common.{ℕ, List, [], length, refl, sym, subst}
-use Rattle.std.specs.Prelude.{All}
-use Rattle.std.proofs.lemmas.List.{append-nil}
-use Rattle.std.proofs.lemmas.List.Elements.{All-nil, All-weaker}
-use Rattle.vote_terms.specs.Held.{held}
-use Rattle.vote_terms.specs.Votes.{ReadVote}
+use Rattle.std.proofs.{Common.{ℕ, List, [], length, refl, sym, subst}, lemmas.List.{append-nil, Elements.All-nil}}
+use Rattle.std.{proofs.lemmas.List.Elements.All-weaker, specs.Prelude.All}
+use Rattle.vote_terms.specs.{Held.held, Votes.ReadVote}
 use Rattle.count_terms.specs.declared.newest.Newest.{Newest}
-use Rattle.consensus_terms.specs.Texts.{unsigned}
-use Rattle.consensus_terms.specs.declared.flavour.Flavour.{Flavour}
-use Rattle.consensus_terms.specs.declared.flavour.Flavour.TheVariants.{Ns, Microdesc}
+use Rattle.consensus_terms.specs.{Texts.unsigned, declared.flavour.Flavour.{Flavour, TheVariants.{Ns, Microdesc}}}
 use Rattle.compute_terms.specs.Consensuses.{consensus}
-use Rattle.computed_laws.specs.Computed.{IsVoteInRange}
-use Rattle.computed_laws.specs.WithinLimits.{FillsLines, IsSignature}
+use Rattle.computed_laws.specs.{Computed.IsVoteInRange, WithinLimits.{FillsLines, IsSignature}}
 use Rattle.computed_laws.proofs.ComputedItems.{again_within}
 use Rattle.daemon_words.specs.declared.command.Flavours.{Flavours}
 use Rattle.daemon_words.specs.declared.command.Flavours.TheVariants as flavours
 use Rattle.compute_command.specs.Answers.{texts_of}
-use Rattle.answer_laws.specs.Texts.{AnswersAreReadAgain, IsReadAgain, IsReadAs, IsReadAsWanted}
-use Rattle.answer_laws.specs.Votes.{IsFit, VotesOfInputsAreFit}
+use Rattle.answer_laws.specs.{Texts.{AnswersAreReadAgain, IsReadAgain, IsReadAs, IsReadAsWanted}, Votes.IsFit}
+use Rattle.answer_laws.specs.Votes.{VotesOfInputsAreFit}
 
 -- the text of what is computed of votes that are fit
 text_again : (flavour : Flavour) (newest : Newest) (roster : ℕ) (votes : List ReadVote) → All IsFit votes

@@ -1,17 +1,14 @@
 -- The votes of an input of bytes are fit.
-use Rattle.std.proofs.Common.{◌≡◌, ℕ, List, [], ◌∷◌, Ok}
-use Rattle.std.specs.Prelude.{All, Contains}
-use Rattle.std.proofs.lemmas.List.Elements.{All-cons, All-contains, All-contains_itself, All-nil, All-weaker}
+use Rattle.std.proofs.{Common.{◌≡◌, ℕ, List, [], ◌∷◌, Ok}, lemmas.List.Elements.{All-cons, All-contains}}
+use Rattle.std.{proofs.lemmas.List.Elements.{All-contains_itself, All-nil, All-weaker}, specs.Prelude.{All, Contains}}
 use Rattle.grammar_laws.specs.Written.{IsItem}
-use Rattle.vote_terms.specs.Held.{held}
-use Rattle.vote_terms.specs.Votes.{ReadVote}
-use Rattle.vote_terms.proofs.HeldLaw.{held_law}
+use Rattle.vote_terms.{specs.{Held.held, Votes.ReadVote}, proofs.HeldLaw.held_law}
 use Rattle.vote_doc.specs.Reading.{vote_from}
 use Rattle.vote_text.specs.Texts.{vote_items}
 use Rattle.computed_laws.proofs.VoteLines.{Fills, vote_fills}
 use Rattle.range_laws.proofs.VoteRead.{vote_in_range}
-use Rattle.answer_laws.specs.Inputs.{AreVotes, InputsAreVotes}
-use Rattle.answer_laws.specs.Votes.{IsFit, VotesInRangeAreFit, VotesOfInputsAreFit, VotesReadAreFit}
+use Rattle.answer_laws.specs.{Inputs.{AreVotes, InputsAreVotes}, Votes.{IsFit, VotesInRangeAreFit, VotesOfInputsAreFit}}
+use Rattle.answer_laws.specs.Votes.{VotesReadAreFit}
 
 pub in_range_fit : VotesInRangeAreFit
 in_range_fit vote is = record {

@@ -2,8 +2,7 @@
 use Rattle.std.specs.Prelude.{◌≡◌, ℕ, List}
 use Rattle.dir_values.specs.declared.digest.Fingerprint.{Fingerprint}
 use Rattle.key_port.specs.Answers.{Rules, ExactlyOneHolds}
-use Rattle.vote_terms.specs.Held.{RanksApart, SameMembers, held}
-use Rattle.vote_terms.specs.Votes.{ReadVote}
+use Rattle.vote_terms.specs.{Held.{RanksApart, SameMembers, held}, Votes.ReadVote}
 use Rattle.consensus_terms.specs.declared.consensus.SignedConsensus.{SignedConsensus}
 use Rattle.health_report.specs.Reports.{IsReport}
 

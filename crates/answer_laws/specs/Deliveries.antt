@@ -1,11 +1,9 @@
 -- What is held of votes that come in several lists, in any order and however often.
 use Rattle.std.specs.Prelude.{◌≡◌, ℕ, List, ◌++◌}
-use Rattle.vote_terms.specs.Votes.{ReadVote}
-use Rattle.vote_terms.specs.Held.{IsHeld, RanksApart, SameMembers, held}
+use Rattle.vote_terms.specs.{Votes.ReadVote, Held.{IsHeld, RanksApart, SameMembers, held}}
 use Rattle.count_terms.specs.declared.newest.Newest.{Newest}
 use Rattle.compute_terms.specs.Consensuses.{consensus}
-use Rattle.consensus_terms.specs.Texts.{unsigned}
-use Rattle.consensus_terms.specs.declared.flavour.Flavour.{Flavour}
+use Rattle.consensus_terms.specs.{Texts.unsigned, declared.flavour.Flavour.Flavour}
 
 -- Of any two lists of which `IsHeld` says that they are held of a list, the members are the same.
 abbrev pub HeldAlike : Type 0

@@ -1,17 +1,11 @@
 -- Which relays a consensus lists (dir-spec, "Computing a consensus from a set of votes").
-use Rattle.std.specs.Prelude.{◌≡◌, ℕ, Bool, false, List}
-use Rattle.std.specs.Option.{option_map_or}
-use Rattle.std.specs.List.{list_any}
-use Rattle.dir_values.specs.declared.digest.Fingerprint.{Fingerprint}
-use Rattle.dir_values.specs.Digests.{same_identity}
+use Rattle.std.specs.{Prelude.{◌≡◌, ℕ, Bool, false, List}, Option.option_map_or, List.list_any}
+use Rattle.dir_values.specs.{declared.digest.Fingerprint.Fingerprint, Digests.same_identity}
 use Rattle.vote_terms.specs.Votes.{ReadVote}
 use Rattle.count_terms.specs.declared.newest.Newest.{Newest}
 use Rattle.consensus_terms.specs.declared.router.Routerline.{Routerline}
-use Rattle.compute_terms.specs.declared.identity.EdPart.{EdPart}
-use Rattle.compute_terms.specs.Listings.{listings}
-use Rattle.compute_terms.specs.Identities.{eds_of, included_part}
-use Rattle.compute_terms.specs.RelayFlags.{router_flags, is_running_and_valid}
-use Rattle.compute_terms.specs.Routers.{belonging_listings}
+use Rattle.compute_terms.specs.{declared.identity.EdPart.EdPart, Listings.listings, Identities.{eds_of, included_part}}
+use Rattle.compute_terms.specs.{RelayFlags.{router_flags, is_running_and_valid}, Routers.belonging_listings}
 use Rattle.compute_terms.specs.Consensuses.{consensus}
 
 -- whether an RSA identity stands among routers

@@ -2,20 +2,18 @@
 -- formats").
 use Rattle.std.specs.Prelude.{◌≡◌, ℕ, List, length, Ok}
 use Rattle.base64.specs.GeneralPurpose.{IsBytes}
-use Rattle.key_port.specs.Answers.{Relation, Rules}
-use Rattle.key_port.specs.Signing.{SignerSteps}
+use Rattle.key_port.specs.{Answers.{Relation, Rules}, Signing.SignerSteps}
 use Rattle.bandwidth_file.specs.declared.file.BandFile.{BandFile}
 use Rattle.flag_rules.specs.declared.ruling.Ruling.{Ruling}
 use Rattle.count_terms.specs.declared.newest.Newest.{Newest}
-use Rattle.station_input.specs.Reading.{station_of}
-use Rattle.station_input.specs.declared.facts.StationFacts.{StationFacts}
+use Rattle.station_input.specs.{Reading.station_of, declared.facts.StationFacts.StationFacts}
 use Rattle.vote_terms.specs.Votes.{ReadVote}
 use Rattle.vote_doc.specs.Reading.{vote_of}
 use Rattle.vote_maker.specs.Made.{Basis}
 use Rattle.vote_laws.specs.Made.{IsMadeVote}
 use Rattle.maker_laws.specs.ReadAsMade.{signed_facts}
-use Rattle.station_commands.specs.Voting.{IsBasisOf, IsVoteOf, MakeVoteAnswers}
-use Rattle.station_commands.specs.WithFile.{BeginsWithFile, FileVoteAnswers, station_behind}
+use Rattle.station_commands.specs.{Voting.{IsBasisOf, IsVoteOf, MakeVoteAnswers}, WithFile.BeginsWithFile}
+use Rattle.station_commands.specs.WithFile.{FileVoteAnswers, station_behind}
 
 -- The text is read as a vote, with nothing behind it, which says what is made of the basis under these rulings with this
 -- signature, and has the bytes of the station's certificate.

@@ -1,8 +1,7 @@
 -- What a pool holds after descriptors were kept in turn, in plain words.
 use Rattle.std.specs.Prelude.{◌≡◌, ◌⊎◌, ℕ, ◌≤◌, true, false, List, [], length, Contains, Option, Some, None}
 use Rattle.std.specs.List.{fold}
-use Rattle.dir_values.specs.Digests.{same_identity}
-use Rattle.dir_values.specs.declared.digest.Fingerprint.{Fingerprint}
+use Rattle.dir_values.specs.{Digests.same_identity, declared.digest.Fingerprint.Fingerprint}
 use Rattle.descriptor_doc.specs.declared.descriptor.Descriptor.{Descriptor}
 use Rattle.vote_pool.specs.Pools.{DescriptorsAscend, Pooled, descriptor_for, most_changes, most_relays, pool_after}
 use Rattle.vote_pool.specs.Ranks.{is_newer, rank_of_descriptor}

@@ -1,7 +1,6 @@
 -- The order of ranks.
 use Rattle.std.specs.Prelude.{◌≡◌, true, false}
-use Rattle.vote_terms.specs.Votes.{is_above}
-use Rattle.vote_terms.specs.declared.rank.Rank.{Rank}
+use Rattle.vote_terms.specs.{Votes.is_above, declared.rank.Rank.Rank}
 
 -- Ranks stand in one order.
 pub record RanksAreOrdered : Type 0 where

@@ -1,8 +1,7 @@
 -- How many relays the consensus of votes lists (dir-spec, "Computing a consensus from a set of votes").
 use Rattle.std.specs.Prelude.{◌≡◌, ℕ, ◌<◌, ◌≤◌, ◌^◌, List, length, All, Ok}
 use Rattle.base64.specs.GeneralPurpose.{IsBytes}
-use Rattle.vote_terms.specs.Held.{held}
-use Rattle.vote_terms.specs.Votes.{ReadVote}
+use Rattle.vote_terms.specs.{Held.held, Votes.ReadVote}
 use Rattle.vote_doc.specs.Reading.{vote_from}
 use Rattle.count_terms.specs.declared.newest.Newest.{Newest}
 use Rattle.compute_terms.specs.Consensuses.{facts_of}

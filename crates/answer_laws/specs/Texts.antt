@@ -4,22 +4,15 @@ use Rattle.std.specs.Prelude.{◌≡◌, ℕ, List, [], ◌++◌, length, All, O
 use Rattle.base64.specs.GeneralPurpose.{IsBytes}
 use Rattle.grammar_laws.specs.Written.{AreWithinLimits}
 use Rattle.key_port.specs.Answers.{Rules}
-use Rattle.vote_terms.specs.Held.{held}
-use Rattle.vote_terms.specs.Votes.{ReadVote}
-use Rattle.consensus_terms.specs.Signed.{signed}
-use Rattle.consensus_terms.specs.Texts.{unsigned}
-use Rattle.consensus_terms.specs.declared.flavour.Flavour.{Flavour}
-use Rattle.consensus_terms.specs.declared.flavour.Flavour.TheVariants.{Ns, Microdesc}
-use Rattle.consensus_terms.specs.declared.signature.SignatureLine.{SignatureLine}
+use Rattle.vote_terms.specs.{Held.held, Votes.ReadVote}
+use Rattle.consensus_terms.specs.{Signed.signed, Texts.unsigned, declared.flavour.Flavour.{Flavour, TheVariants.Ns}}
+use Rattle.consensus_terms.specs.declared.{flavour.Flavour.TheVariants.Microdesc, signature.SignatureLine.SignatureLine}
 use Rattle.consensus_doc.specs.Reading.{consensus_of, max_consensus}
-use Rattle.consensus_laws.specs.Again.{as_read}
-use Rattle.consensus_laws.specs.Items.{consensus_items}
+use Rattle.consensus_laws.specs.{Again.as_read, Items.consensus_items}
 use Rattle.count_terms.specs.declared.newest.Newest.{Newest}
 use Rattle.compute_terms.specs.Consensuses.{consensus}
-use Rattle.computed_laws.specs.Computed.{signed_consensus}
-use Rattle.computed_laws.specs.WithinLimits.{IsSignature}
-use Rattle.daemon_words.specs.declared.command.Compute.{Compute}
-use Rattle.daemon_words.specs.declared.command.Flavours.{Flavours}
+use Rattle.computed_laws.specs.{Computed.signed_consensus, WithinLimits.IsSignature}
+use Rattle.daemon_words.specs.declared.command.{Compute.Compute, Flavours.Flavours}
 use Rattle.daemon_words.specs.declared.command.Flavours.TheVariants as flavours
 use Rattle.compute_command.specs.Answers.{Computes}
 

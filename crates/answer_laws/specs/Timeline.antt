@@ -1,8 +1,7 @@
 -- The moments of a period in their order (dir-spec, "Voting timeline").
 use Rattle.std.specs.Prelude.{◌≡◌, ◌↔◌, ℕ, ◌+◌, ◌≤◌, ◌<◌, Ok}
 use Rattle.vote_schedule.specs.Moments.{fetching_begins, freeze, phase_of, upload_cutoff, voting_begins}
-use Rattle.vote_schedule.specs.Schedules.{IsSchedule, Schedule, schedule_of}
-use Rattle.vote_schedule.specs.declared.phase.Phase.{Phase}
+use Rattle.vote_schedule.specs.{Schedules.{IsSchedule, Schedule, schedule_of}, declared.phase.Phase.Phase}
 use Rattle.vote_schedule.specs.declared.phase.Phase.TheVariants as phase
 
 -- Three numbers that are answered with a schedule are one, which is these three.

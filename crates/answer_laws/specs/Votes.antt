@@ -2,11 +2,9 @@
 -- a set of votes").
 use Rattle.std.specs.Prelude.{◌≡◌, ℕ, List, All, Ok}
 use Rattle.base64.specs.GeneralPurpose.{IsBytes}
-use Rattle.vote_terms.specs.Held.{held}
-use Rattle.vote_terms.specs.Votes.{ReadVote}
+use Rattle.vote_terms.specs.{Held.held, Votes.ReadVote}
 use Rattle.vote_doc.specs.Reading.{vote_from}
-use Rattle.computed_laws.specs.Computed.{IsVoteInRange}
-use Rattle.computed_laws.specs.WithinLimits.{FillsLines}
+use Rattle.computed_laws.specs.{Computed.IsVoteInRange, WithinLimits.FillsLines}
 use Rattle.range_laws.specs.Votes.{IsInRangeButForLimits}
 use Rattle.compute_command.specs.Votes.{votes_of}
 

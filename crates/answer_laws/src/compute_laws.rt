@@ -1,6 +1,5 @@
 // Which relays a consensus lists; what is held of several lists of votes, and the texts that follow from it.
-ghost use Rattle.answer_laws.specs.Deliveries.{HeldAlike, HeldOfLists, TextsAgree};
-ghost use Rattle.answer_laws.specs.Listed.{ListedRelaysAreListed};
+ghost use Rattle.answer_laws.specs.{Deliveries.{HeldAlike, HeldOfLists, TextsAgree}, Listed.ListedRelaysAreListed};
 ghost use Rattle.answer_laws.specs.Ranks.{RanksAreOrdered};
 
 /// An RSA identity stands among the routers of a consensus exactly where it is included and its flags have `Running` and

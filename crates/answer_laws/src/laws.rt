@@ -1,8 +1,6 @@
 // What an input of votes is, and that what is computed of it can be read.
-ghost use Rattle.answer_laws.specs.Inputs.{InputsAreVotes};
-ghost use Rattle.answer_laws.specs.Relays.{RelaysOfInputsAreFew, RelaysOfVotesAreFew};
-ghost use Rattle.answer_laws.specs.ReportInputs.{ReportInputsAreVotes};
-ghost use Rattle.answer_laws.specs.Texts.{AnswersAreReadAgain};
+ghost use Rattle.answer_laws.specs.{Inputs.InputsAreVotes, Relays.{RelaysOfInputsAreFew, RelaysOfVotesAreFew}};
+ghost use Rattle.answer_laws.specs.{ReportInputs.ReportInputsAreVotes, Texts.AnswersAreReadAgain};
 ghost use Rattle.answer_laws.specs.Votes.{VotesInRangeAreFit, VotesOfInputsAreFit, VotesReadAreFit};
 
 /// A law: an input is these votes exactly where they stand in it one behind the other, at most 64, with nothing but blank lines

@@ -1,14 +1,9 @@
 -- The certificate that is read.
 use Rattle.std.proofs.Common.{◌≡◌, ℕ, List, length, Ok, Result, sym, ap, ◌∙◌}
 use Rattle.item_terms.specs.Items.{Contents, items_of}
-use Rattle.frame_terms.specs.declared.fault.ReadRefusal.{ReadRefusal}
-use Rattle.frame_terms.specs.Documents.{document_of, finish}
-use Rattle.authority_certs.specs.declared.cert.Cert.{Cert}
-use Rattle.authority_certs.specs.declared.head.CertHead.{CertHead}
-use Rattle.authority_certs.specs.Heads.{no_head, head_with}
-use Rattle.authority_certs.specs.Certs.{cert_in}
-use Rattle.authority_certs.specs.Tables.{cert_tables}
-use Rattle.authority_certs.specs.Reading.{cert_of, max_cert, with_cert}
+use Rattle.frame_terms.specs.{declared.fault.ReadRefusal.ReadRefusal, Documents.{document_of, finish}}
+use Rattle.authority_certs.specs.{declared.{cert.Cert.Cert, head.CertHead.CertHead}, Heads.{no_head, head_with}}
+use Rattle.authority_certs.specs.{Certs.cert_in, Tables.cert_tables, Reading.{cert_of, max_cert, with_cert}}
 
 abbrev kept_of : CertHead → Contents → List ℕ → Result (CertHead × ℕ) ReadRefusal
 kept_of start items bytes = finish head_with start (document_of cert_tables (length bytes) items)

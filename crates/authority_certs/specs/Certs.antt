@@ -2,8 +2,7 @@
 use Rattle.std.specs.Prelude.{ℕ, List, slice_range, option_map}
 use Rattle.sha1.specs.Sha1.{sha1}
 use Rattle.frame_values.specs.Parts.{part, bytes_in, moment_of}
-use Rattle.authority_certs.specs.declared.cert.Cert.{Cert}
-use Rattle.authority_certs.specs.declared.head.CertHead.{CertHead}
+use Rattle.authority_certs.specs.declared.{cert.Cert.Cert, head.CertHead.CertHead}
 
 -- the text that the certification is made over: from the first item through the line `dir-key-certification` with its
 -- NL

@@ -1,14 +1,11 @@
 -- When a certificate holds (dir-spec, "Creating key certificates").
 use Rattle.std.specs.Prelude.{◌≡◌, ◌⊎◌, ℕ, ◌<◌, ◌≤◌, Bool, true, false, List}
 use Rattle.sha1.specs.Sha1.{sha1}
-use Rattle.dir_values.specs.Digests.{same_identity}
-use Rattle.dir_values.specs.declared.digest.Fingerprint.{Fingerprint}
-use Rattle.key_port.specs.Answers.{Relation, Rules, Steps}
+use Rattle.dir_values.specs.{Digests.same_identity, declared.digest.Fingerprint.Fingerprint}
+use Rattle.key_port.specs.{Answers.{Relation, Rules, Steps}, declared.verifier.VerifyAnswer.VerifyAnswer}
 use Rattle.key_port.specs.declared.verifier.KeyKind.TheVariants as kind
-use Rattle.key_port.specs.declared.verifier.VerifyAnswer.{VerifyAnswer}
 use Rattle.key_port.specs.declared.verifier.VerifyAnswer.TheVariants as verified
-use Rattle.authority_certs.specs.declared.cert.Cert.{Cert}
-use Rattle.authority_certs.specs.declared.checking.CertAnswer.{CertAnswer}
+use Rattle.authority_certs.specs.declared.{cert.Cert.Cert, checking.CertAnswer.CertAnswer}
 use Rattle.authority_certs.specs.declared.checking.CertAnswer.TheVariants as answer
 
 -- the identity that a key makes: the SHA-1 of its bytes

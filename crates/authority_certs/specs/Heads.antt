@@ -4,11 +4,9 @@ use Rattle.std.specs.Prelude.{List, None}
 use Rattle.frame_terms.specs.declared.keyword.Keyword.TheVariants.{DirAddress, Fingerprint, DirIdentityKey}
 use Rattle.frame_terms.specs.declared.keyword.Keyword.TheVariants.{DirKeyCertificateVersion, DirKeyPublished}
 use Rattle.frame_terms.specs.declared.keyword.Keyword.TheVariants.{DirKeyExpires, DirSigningKey, DirKeyCrosscert}
-use Rattle.frame_terms.specs.declared.keyword.Keyword.TheVariants.{DirKeyCertification}
-use Rattle.frame_terms.specs.declared.document.Taken.{Taken}
-use Rattle.frame_values.specs.declared.values.Value.{Value}
-use Rattle.frame_values.specs.Values.{item_at, place_in, line_end_in, after_in, nowhere, number_in, text_if}
-use Rattle.frame_values.specs.Values.{no_identity, fingerprint_in, object_in}
+use Rattle.frame_terms.specs.declared.{keyword.Keyword.TheVariants.DirKeyCertification, document.Taken.Taken}
+use Rattle.frame_values.specs.{declared.values.Value.Value, Values.{item_at, place_in, line_end_in, after_in, nowhere}}
+use Rattle.frame_values.specs.Values.{number_in, text_if, no_identity, fingerprint_in, object_in}
 use Rattle.authority_certs.specs.declared.head.CertHead.{CertHead}
 
 -- where nothing was read

@@ -1,14 +1,9 @@
 -- The certificate that bytes begin with, or their first fault (dir-spec, "Creating key certificates").
 use Rattle.std.specs.Prelude.{◌≡◌, ℕ, ◌≤◌, List, length, Result, Ok, Err}
 use Rattle.item_terms.specs.Items.{items_of}
-use Rattle.frame_terms.specs.declared.fault.ReadRefusal.{ReadRefusal}
-use Rattle.frame_terms.specs.Documents.{document_of, finish}
-use Rattle.frame_terms.specs.Refusals.{Fails}
-use Rattle.authority_certs.specs.declared.cert.Cert.{Cert}
-use Rattle.authority_certs.specs.declared.head.CertHead.{CertHead}
-use Rattle.authority_certs.specs.Heads.{no_head, head_with}
-use Rattle.authority_certs.specs.Certs.{cert_in}
-use Rattle.authority_certs.specs.Tables.{cert_tables}
+use Rattle.frame_terms.specs.{declared.fault.ReadRefusal.ReadRefusal, Documents.{document_of, finish}, Refusals.Fails}
+use Rattle.authority_certs.specs.{declared.{cert.Cert.Cert, head.CertHead.CertHead}, Heads.{no_head, head_with}}
+use Rattle.authority_certs.specs.{Certs.cert_in, Tables.cert_tables}
 
 -- how many bytes a certificate may have
 abbrev pub max_cert : ℕ

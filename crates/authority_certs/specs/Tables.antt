@@ -2,22 +2,15 @@
 use Rattle.std.specs.Prelude.{ℕ, false, ◌||◌, List, [], ◌∷◌, Some, None, Result, Ok, codes}
 use Rattle.item_terms.specs.Items.{Item}
 use Rattle.frame_terms.specs.declared.keyword.Keyword.TheVariants as the
-use Rattle.frame_terms.specs.declared.row.Count.TheVariants.{One, Optional}
+use Rattle.frame_terms.specs.declared.{row.{Count.TheVariants.{One, Optional}, Row.Row}, section.Shape.Shape}
+use Rattle.frame_terms.specs.{Rows.row, Tables.Tables}
 use Rattle.frame_terms.specs.declared.row.Limit.TheVariants as limit
-use Rattle.frame_terms.specs.declared.row.Row.{Row}
 use Rattle.frame_terms.specs.declared.section.Again.TheVariants as again
-use Rattle.frame_terms.specs.declared.section.Shape.{Shape}
-use Rattle.frame_terms.specs.Rows.{row}
-use Rattle.frame_terms.specs.Tables.{Tables}
-use Rattle.frame_values.specs.declared.values.Value.{Value}
+use Rattle.frame_values.specs.{declared.values.Value.Value, Faults.at_place, Arguments.next, Lines.{literal, time_of}}
+use Rattle.frame_values.specs.{Lines.{argument_of, fingerprint_of}, Signatures.{has_words, object_of}}
 use Rattle.frame_values.specs.declared.values.Value.TheVariants as value
-use Rattle.frame_values.specs.Faults.{at_place}
-use Rattle.frame_values.specs.Arguments.{next}
-use Rattle.frame_values.specs.Lines.{literal, time_of, argument_of, fingerprint_of}
-use Rattle.frame_values.specs.Signatures.{has_words, object_of}
-use Rattle.authority_certs.specs.declared.frame.CertKind.{CertKind}
-use Rattle.authority_certs.specs.declared.frame.CertKind.TheVariants.{Version, Address, Fingerprint, Time, Key}
-use Rattle.authority_certs.specs.declared.frame.CertKind.TheVariants.{Crosscert, Certification}
+use Rattle.authority_certs.specs.declared.frame.CertKind.{CertKind, TheVariants.{Version, Address, Fingerprint, Time}}
+use Rattle.authority_certs.specs.declared.frame.CertKind.TheVariants.{Key, Crosscert, Certification}
 
 module _ {K : Type 0} where
   -- the items of a certificate, in a document that has their kinds among its own; the first one opens it

@@ -1,7 +1,6 @@
 // Reading a certificate.
 ghost use Rattle.std.specs.Prelude.{◌<◌, ◌^◌, length};
-ghost use Rattle.authority_certs.specs.Heads.{head_with};
-ghost use Rattle.authority_certs.specs.Reading.{ReadsCert};
+ghost use Rattle.authority_certs.specs.{Heads.head_with, Reading.ReadsCert};
 
 use crate::cert::Cert;
 use crate::frame::CertFrame;

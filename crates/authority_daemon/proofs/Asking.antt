@@ -1,19 +1,14 @@
 -- What becomes of the first of some objects that is asked, and what a command that asks it answers.
 use Rattle.std.proofs.Common.{◌≡◌, ◌<◌, ◌∙◌, ℕ, List, [], ◌∷◌, length, Result, Ok, Err, refl, sym, ap, subst, arith}
-use Rattle.std.specs.Prelude.{IfErr, drop, slice_index_or, slice_set}
-use Rattle.std.specs.Global.{Vec}
+use Rattle.std.specs.{Prelude.{IfErr, drop, slice_index_or, slice_set}, Global.Vec}
 use Rattle.dir_bytes.specs.Causes.{Counts, Rose}
-use Rattle.daemon_words.specs.declared.command.Command.{Command}
-use Rattle.daemon_words.specs.declared.command.Command.TheVariants as command
-use Rattle.daemon_words.specs.declared.making.MakeVote.{MakeVote}
+use Rattle.daemon_words.specs.declared.{command.Command.Command, making.MakeVote.MakeVote, stop.Stop.Stop}
 use Rattle.daemon_words.specs.Stops.{Answered}
-use Rattle.daemon_words.specs.declared.stop.Stop.{Stop}
+use Rattle.daemon_words.specs.declared.command.Command.TheVariants as command
 use Rattle.daemon_words.specs.declared.stop.Stop.TheVariants as stop
 use Rattle.exit_status.specs.declared.status.Refusal.{Refusal}
-use Rattle.authority_daemon.specs.Commands.{Answers, IsEarly, IsOfStation, May, MakeVoteBy}
-use Rattle.authority_daemon.specs.Inside.{OfRefusal}
-use Rattle.authority_daemon.specs.Runs.{first_count}
-use Rattle.authority_daemon.specs.Moments.{TellsFaults}
+use Rattle.authority_daemon.specs.{Commands.{Answers, IsEarly, IsOfStation, May, MakeVoteBy}, Inside.OfRefusal}
+use Rattle.authority_daemon.specs.{Runs.first_count, Moments.TellsFaults}
 
 module _ {X : Type 0} where
   -- what is told of the first afterwards

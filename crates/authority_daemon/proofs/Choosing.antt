@@ -1,14 +1,11 @@
 -- A run is that of its command.
 use Rattle.std.proofs.Common.{◌≡◌, ℕ, List, Option, Some, None, true, subst}
 use Rattle.key_port.specs.Answers.{Rules}
-use Rattle.daemon_words.specs.declared.command.Command.{Command}
+use Rattle.daemon_words.specs.declared.{command.Command.Command, serving.Serve.Serve}
 use Rattle.daemon_words.specs.declared.command.Command.TheVariants as command
-use Rattle.daemon_words.specs.declared.serving.Serve.{Serve}
 use Rattle.exit_status.specs.declared.status.Status.{Status}
-use Rattle.authority_daemon.specs.Commands.{May, writes_text, Answerable}
-use Rattle.authority_daemon.specs.Moments.{Moment, Telling}
-use Rattle.authority_daemon.specs.World.{AnswersWhatItMust, IsRun, Runs}
-use Rattle.authority_daemon.proofs.Completeness.{completes}
+use Rattle.authority_daemon.specs.{Commands.{May, writes_text, Answerable}, Moments.{Moment, Telling}}
+use Rattle.authority_daemon.{specs.World.{AnswersWhatItMust, IsRun, Runs}, proofs.Completeness.completes}
 
 -- `serve` has no text that it must answer with
 none_must : (rules : Rules) (wanted : Serve) (c : Command) (now : ℕ) (bytes : List ℕ)

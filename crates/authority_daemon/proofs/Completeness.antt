@@ -2,26 +2,22 @@
 use Rattle.std.proofs.Common.{◌≡◌, ◌∙◌, ◌⊎◌, ℕ, List, Option, ap, subst, refl, arith, Err, inl, inr}
 use Rattle.count_terms.specs.declared.newest.Newest.{Newest}
 use Rattle.dir_bytes.specs.Causes.{Rose}
-use Rattle.daemon_words.specs.declared.command.Command.{Command}
+use Rattle.daemon_words.specs.declared.command.{Command.Command, Measures.Measures}
 use Rattle.daemon_words.specs.declared.command.Command.TheVariants as command
-use Rattle.daemon_words.specs.declared.command.Measures.{Measures}
 use Rattle.daemon_words.specs.declared.command.Measures.TheVariants as measures
-use Rattle.exit_status.specs.declared.status.Refusal.{Refusal}
+use Rattle.exit_status.specs.{declared.status.{Refusal.Refusal, Status.Status}, Told.{by_compute, by_file_vote}}
+use Rattle.exit_status.specs.Told.{by_make_vote, by_report}
 use Rattle.exit_status.specs.declared.status.Refusal.TheVariants as refusal
-use Rattle.exit_status.specs.declared.status.Status.{Status}
 use Rattle.exit_status.specs.declared.status.Status.TheVariants as status
 use Rattle.document_commands.proofs.NotRefused as document
 use Rattle.compute_command.proofs.NotRefused as votes
 use Rattle.station_commands.proofs.NotRefused as stations
 use Rattle.station_commands.specs.Answerable as station
 use Rattle.station_commands.specs.declared.refusal.MakeVoteRefusal.{MakeVoteRefusal}
-use Rattle.exit_status.specs.Told.{by_compute, by_file_vote, by_make_vote, by_report}
 use Rattle.station_commands.proofs.FilesNotRefused as file
 use Rattle.report_command.proofs.NotRefused as report
-use Rattle.authority_daemon.specs.Commands.{Answers, Answerable, CanMakeVoteBy, MakeVoteBy, May}
-use Rattle.authority_daemon.specs.Runs.{Ends, KeepsLimit, Told}
-use Rattle.authority_daemon.specs.Moments.{Moment}
-use Rattle.authority_daemon.specs.World.{AnswersWhatItMust, IsRun}
+use Rattle.authority_daemon.specs.{Commands.{Answers, Answerable, CanMakeVoteBy, MakeVoteBy, May}, Runs.Ends}
+use Rattle.authority_daemon.specs.{Runs.{KeepsLimit, Told}, Moments.Moment, World.{AnswersWhatItMust, IsRun}}
 
 -- it is the verifier's or the signer's
 abbrev IsOfKeys : Refusal → Type 0

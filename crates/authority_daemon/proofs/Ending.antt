@@ -1,21 +1,15 @@
 -- What a run ends with whose text was written, whole or in part, or whose command refused the input.
-use Rattle.std.proofs.Common.{◌≡◌, ℕ, ◌<◌, ◌≤◌, Bool, true, false, List, [], length, take, Option, Some, None}
-use Rattle.std.proofs.Common.{Result, Ok, Err, ap, subst, sym, inl, ◌∙◌}
-use Rattle.std.specs.Prelude.{if◌then◌else◌}
-use Rattle.std.specs.Global.{Vec}
-use Rattle.std.specs.Io.KnownBytes.{Appends}
+use Rattle.std.proofs.Common.{◌≡◌, ℕ, ◌<◌, ◌≤◌, Bool, true, false, List, [], length, take, Option, Some, None, Result}
+use Rattle.std.{proofs.Common.{Ok, Err, ap, subst, sym, inl, ◌∙◌}, specs.{Prelude.if◌then◌else◌, Global.Vec}}
+use Rattle.std.specs.{Io.KnownBytes.Appends, Bool.OnTrue}
 use Rattle.dir_bytes.specs.Streams.{ReadsAll}
-use Rattle.daemon_words.specs.declared.command.Command.{Command}
+use Rattle.daemon_words.specs.declared.{command.Command.Command, stop.Stop.Stop}
 use Rattle.daemon_words.specs.declared.command.Command.TheVariants as command
 use Rattle.exit_status.specs.declared.status.Refusal.{Refusal}
 use Rattle.exit_status.specs.declared.status.Status.TheVariants as status
-use Rattle.daemon_words.specs.declared.stop.Stop.{Stop}
 use Rattle.daemon_words.specs.declared.stop.Stop.TheVariants as stop
-use Rattle.std.specs.Bool.{OnTrue}
 use Rattle.authority_daemon.specs.Runs.{Ends, HasEnded, Told, input_limit, input_of, is_gathered, reads_input}
-use Rattle.authority_daemon.specs.Commands.{May}
-use Rattle.authority_daemon.specs.Inside.{IsAnswer}
-use Rattle.authority_daemon.specs.Moments.{Moment, TellsFaults, TellsFaultsOr}
+use Rattle.authority_daemon.specs.{Commands.May, Inside.IsAnswer, Moments.{Moment, TellsFaults, TellsFaultsOr}}
 
 -- a refusal, as what a command returns
 abbrev as_stop : Refusal → Result (Vec ℕ) (Stop Refusal)

@@ -1,31 +1,21 @@
 -- What a run of `serve` ends with, by what the authority did or why it did not begin.
-use Rattle.std.proofs.Common.{◌≡◌, ◌∙◌, ℕ, ◌<◌, ◌≤◌, List, Option, Some, None, Result, Ok, Err}
-use Rattle.std.proofs.Common.{refl, ap, subst, sym, arith, inl, inr, ◌∷◌, drop}
-use Rattle.std.specs.Global.{Vec}
-use Rattle.std.specs.Io.KnownBytes.{Keeps}
-use Rattle.dir_bytes.specs.Causes.{Rose}
-use Rattle.dir_bytes.specs.Streams.{ReadsAll}
+use Rattle.std.proofs.Common.{◌≡◌, ◌∙◌, ℕ, ◌<◌, ◌≤◌, List, Option, Some, None, Result, Ok, Err, refl, ap, subst, sym}
+use Rattle.std.{proofs.Common.{arith, inl, inr, ◌∷◌, drop}, specs.{Global.Vec, Io.KnownBytes.Keeps}}
+use Rattle.dir_bytes.specs.{Causes.Rose, Streams.ReadsAll}
 use Rattle.daemon_words.specs.declared.command.Command.TheVariants as command
-use Rattle.daemon_words.specs.declared.serving.Serve.{Serve}
-use Rattle.exit_status.specs.Told.{by_serve}
+use Rattle.daemon_words.specs.declared.{serving.Serve.Serve, stop.Stop.Stop}
+use Rattle.exit_status.specs.{Told.by_serve, declared.status.Status.Status}
 use Rattle.exit_status.specs.declared.status.Refusal.TheVariants as refusal
-use Rattle.exit_status.specs.declared.status.Status.{Status}
 use Rattle.exit_status.specs.declared.status.Status.TheVariants as status
-use Rattle.daemon_words.specs.declared.stop.Stop.{Stop}
 use Rattle.daemon_words.specs.declared.stop.Stop.TheVariants as stop
-use Rattle.serve_command.specs.Passed.{Outside, Served}
-use Rattle.serve_command.specs.Passed.TheVariants as served
-use Rattle.serve_command.specs.Serving.{AsksFirst, AsksClock, HasServed, ServeAnswers, ServesNone}
-use Rattle.serve_command.specs.Starting.{RefusesToServe}
-use Rattle.serve_command.specs.declared.refusal.ServeRefusal.{ServeRefusal}
-use Rattle.serve_command.specs.declared.refusal.ServeRefusal.TheVariants as serve
+use Rattle.serve_command.specs.{Passed.{Outside, Served}, Serving.{AsksFirst, AsksClock, HasServed, ServeAnswers}}
+use Rattle.serve_command.specs.{Serving.ServesNone, Starting.RefusesToServe, declared.refusal.ServeRefusal.ServeRefusal}
 use Rattle.serve_command.proofs.NotRefused.{not_refused}
-use Rattle.authority_daemon.specs.Commands.{May}
-use Rattle.authority_daemon.specs.Moments.{Moment, Telling, TellsFaults}
-use Rattle.authority_daemon.specs.Runs.{Told, first_count, input_limit}
-use Rattle.authority_daemon.specs.Served.{AtOnce, EndsOn, EndsServing, HasNotServed, IsRefusedAt, IsServed}
-use Rattle.authority_daemon.specs.Served.{ServesOnlySo, status_of}
-use Rattle.authority_daemon.proofs.Ending.{has_ended, is_within}
+use Rattle.serve_command.specs.Passed.TheVariants as served
+use Rattle.serve_command.specs.declared.refusal.ServeRefusal.TheVariants as serve
+use Rattle.authority_daemon.specs.{Commands.May, Moments.{Moment, Telling, TellsFaults}, Runs.{Told, first_count}}
+use Rattle.authority_daemon.specs.{Runs.input_limit, Served.{AtOnce, EndsOn, EndsServing, HasNotServed, IsRefusedAt}}
+use Rattle.authority_daemon.{specs.Served.{IsServed, ServesOnlySo, status_of}, proofs.Ending.{has_ended, is_within}}
 use Rattle.authority_daemon.proofs.Refusals.{serve_no_gate, serve_no_signer, serve_verifier}
 
 -- what holds of the bytes that were read holds of what the source had

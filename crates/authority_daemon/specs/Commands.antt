@@ -1,25 +1,21 @@
 -- What each command answers to an input.
 use Rattle.std.specs.Prelude.{◌≡◌, Bool, true, false, ℕ, List, Option, Some, None, Result, Ok, Err}
 use Rattle.count_terms.specs.declared.newest.Newest.{Newest}
-use Rattle.key_port.specs.Answers.{Relation, Rules, rules}
-use Rattle.key_port.specs.Signing.{SignerSteps}
-use Rattle.daemon_words.specs.declared.command.Command.{Command}
-use Rattle.daemon_words.specs.declared.command.Command.TheVariants as command
-use Rattle.daemon_words.specs.declared.command.Measures.{Measures}
-use Rattle.daemon_words.specs.declared.command.Measures.TheVariants as measures
+use Rattle.key_port.specs.{Answers.{Relation, Rules, rules}, Signing.SignerSteps}
+use Rattle.daemon_words.specs.declared.{command.{Command.Command, Measures.Measures}, rehearsal.Rehearse.Rehearse}
 use Rattle.daemon_words.specs.Stops.{AnsweredAs}
+use Rattle.daemon_words.specs.declared.command.Command.TheVariants as command
+use Rattle.daemon_words.specs.declared.command.Measures.TheVariants as measures
 use Rattle.exit_status.specs.Told.{by_compute, by_file_vote, by_make_vote, by_report, by_subject}
 use Rattle.exit_status.specs.declared.status.Refusal.{Refusal}
 use Rattle.exit_status.specs.declared.status.Refusal.TheVariants as refusal
 use Rattle.document_commands.specs.Answers.{CheckAnswers, IsSubject, ShowAnswers}
 use Rattle.compute_command.specs.Answers.{CanCompute, ComputeAnswers}
-use Rattle.station_commands.specs.Voting.{IsBeforeDescriptors, MakeVoteAnswers}
-use Rattle.station_commands.specs.WithFile.{FileVoteAnswers}
+use Rattle.station_commands.specs.{Voting.{IsBeforeDescriptors, MakeVoteAnswers}, WithFile.FileVoteAnswers}
 use Rattle.station_commands.specs.Answerable.{CanMakeVote, CanMakeVoteWithFile}
 use Rattle.report_command.specs.Answers.{CanReport, ReportAnswers}
 use Rattle.report_command.specs.declared.refusal.NoReport.TheVariants as report
 use Rattle.vote_rehearsal.specs.Summaries.{summary_of}
-use Rattle.daemon_words.specs.declared.rehearsal.Rehearse.{Rehearse}
 
 -- What the keys outside may answer: which signatures may be accepted, refused and given; and the steps of the signer.
 pub record May (N : Type 0) : Type 1 where

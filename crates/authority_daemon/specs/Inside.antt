@@ -1,27 +1,19 @@
 -- What the private functions of this crate say.
-use Rattle.std.specs.Prelude.{◌≡◌, ℕ, ◌+◌, ◌<◌, List, drop, Option, Result, Ok, Err, IfErr, false}
-use Rattle.std.specs.Global.{Vec}
+use Rattle.std.specs.{Prelude.{◌≡◌, ℕ, ◌+◌, ◌<◌, List, drop, Option, Result, Ok, Err, IfErr, false}, Global.Vec}
 use Rattle.std.specs.Bool.{OnTrue}
 use Rattle.dir_bytes.specs.Causes.{Counts, Rose}
 use Rattle.key_port.specs.Answers.{Rules}
-use Rattle.compute_command.specs.declared.halt.Halt.{Halt}
+use Rattle.compute_command.specs.{declared.halt.Halt.Halt, Arriving.{ComputesFrom, StopsReading, TellsVerifier}}
 use Rattle.compute_command.specs.declared.halt.Halt.TheVariants as halt
-use Rattle.compute_command.specs.Arriving.{ComputesFrom, StopsReading, TellsVerifier}
 use Rattle.compute_command.specs.declared.refusal.ComputeRefusal.TheVariants as compute
-use Rattle.daemon_words.specs.declared.command.Command.{Command}
-use Rattle.daemon_words.specs.declared.command.Compute.{Compute}
-use Rattle.exit_status.specs.declared.status.Status.{Status}
+use Rattle.daemon_words.specs.{declared.{command.{Command.Command, Compute.Compute}, stop.Stop.Stop}, Stops.Answered}
+use Rattle.exit_status.specs.{declared.status.{Status.Status, Refusal.Refusal}, Told.by_compute}
 use Rattle.exit_status.specs.declared.status.Status.TheVariants as status
 use Rattle.exit_status.specs.declared.status.Refusal.TheVariants as refusal
-use Rattle.exit_status.specs.declared.status.Refusal.{Refusal}
-use Rattle.exit_status.specs.Told.{by_compute}
-use Rattle.daemon_words.specs.Stops.{Answered}
-use Rattle.daemon_words.specs.declared.stop.Stop.{Stop}
 use Rattle.daemon_words.specs.declared.stop.Stop.TheVariants as stop
 use Rattle.serve_command.specs.Passed.{Outside}
 use Rattle.authority_daemon.specs.Commands.{Answers, IsBeforeSigner, IsEarly, May, asks_clock, signs, verifies}
-use Rattle.authority_daemon.specs.Moments.{Moment, TellsFaults}
-use Rattle.authority_daemon.specs.Runs.{input_limit}
+use Rattle.authority_daemon.specs.{Moments.{Moment, TellsFaults}, Runs.input_limit}
 
 -- The source, the two sinks, the gates and the link are as they were.
 pub record LeavesStreams {S K E C V N G L : Type 0} (old new : Outside S K E C V N G L) : Type 0 where

@@ -1,17 +1,13 @@
 -- What a whole run says: of the words, the input, what was written, and the counts of faults.
-use Rattle.std.specs.Prelude.{◌≡◌, ℕ, ◌+◌, ◌<◌, ◌≤◌, List, [], ◌∷◌, length, take, Bool, true, false}
-use Rattle.std.specs.Prelude.{Option, Some, None, Result, Ok, Err, if◌then◌else◌}
-use Rattle.std.specs.Bool.{OnTrue}
-use Rattle.std.specs.Io.KnownBytes.{Appends, Keeps}
-use Rattle.dir_bytes.specs.Causes.{Counts}
-use Rattle.dir_bytes.specs.Streams.{TakesAtMost}
+use Rattle.std.specs.Prelude.{◌≡◌, ℕ, ◌+◌, ◌<◌, ◌≤◌, List, [], ◌∷◌, length, take, Bool, true, false, Option, Some, None}
+use Rattle.std.specs.{Prelude.{Result, Ok, Err, if◌then◌else◌}, Bool.OnTrue, Io.KnownBytes.{Appends, Keeps}}
+use Rattle.dir_bytes.specs.{Causes.Counts, Streams.TakesAtMost}
 use Rattle.key_port.specs.Answers.{Rules}
 use Rattle.authority_daemon.specs.Commands.{Answerable, IsBeforeSigner, IsEarly, asks_clock_if}
 use Rattle.daemon_words.specs.declared.command.Command.{Command}
 use Rattle.daemon_words.specs.declared.command.Command.TheVariants as command
-use Rattle.exit_status.specs.declared.status.Status.{Status}
+use Rattle.exit_status.specs.declared.status.{Status.Status, Refusal.Refusal}
 use Rattle.exit_status.specs.declared.status.Status.TheVariants as status
-use Rattle.exit_status.specs.declared.status.Refusal.{Refusal}
 use Rattle.exit_status.specs.declared.status.Refusal.TheVariants as refusal
 
 -- how many bytes an input may have

@@ -1,23 +1,16 @@
 -- What a run that serves says.
-use Rattle.std.specs.Prelude.{◌≡◌, ◌≢◌, ℕ, List, ◌∷◌, Some, drop}
-use Rattle.std.specs.Io.KnownBytes.{Keeps}
+use Rattle.std.specs.{Prelude.{◌≡◌, ◌≢◌, ℕ, List, ◌∷◌, Some, drop}, Io.KnownBytes.Keeps}
 use Rattle.dir_bytes.specs.Causes.{Counts}
 use Rattle.daemon_words.specs.declared.command.Command.TheVariants as command
 use Rattle.daemon_words.specs.declared.serving.Serve.{Serve}
-use Rattle.exit_status.specs.declared.status.Refusal.{Refusal}
+use Rattle.exit_status.specs.{declared.status.{Refusal.Refusal, Status.Status}, Told.by_serve}
 use Rattle.exit_status.specs.declared.status.Refusal.TheVariants as refusal
-use Rattle.exit_status.specs.declared.status.Status.{Status}
 use Rattle.exit_status.specs.declared.status.Status.TheVariants as status
-use Rattle.serve_command.specs.Passed.{Served, SomeRose}
+use Rattle.serve_command.specs.{Passed.{Served, SomeRose}, Serving.HasServed, Answerable.CanServe}
+use Rattle.serve_command.specs.{Starting.RefusesToServe, declared.refusal.ServeRefusal.ServeRefusal}
 use Rattle.serve_command.specs.Passed.TheVariants as served
-use Rattle.serve_command.specs.Serving.{HasServed}
-use Rattle.serve_command.specs.Answerable.{CanServe}
-use Rattle.serve_command.specs.Starting.{RefusesToServe}
-use Rattle.serve_command.specs.declared.refusal.ServeRefusal.{ServeRefusal}
-use Rattle.exit_status.specs.Told.{by_serve}
-use Rattle.authority_daemon.specs.Commands.{May}
-use Rattle.authority_daemon.specs.Moments.{Moment, Telling, TellsFaults, TellsFaultsOr}
-use Rattle.authority_daemon.specs.Runs.{KeepsLimit, KnowsWords, ReadsThrough, StopsReading, Told}
+use Rattle.authority_daemon.specs.{Commands.May, Moments.{Moment, Telling, TellsFaults, TellsFaultsOr}, Runs.KeepsLimit}
+use Rattle.authority_daemon.specs.Runs.{KnowsWords, ReadsThrough, StopsReading, Told}
 
 -- how a run ends in which an authority served
 abbrev pub status_of : Served → Status

@@ -4,16 +4,14 @@ use Rattle.dir_bytes.specs.Causes.{Rose}
 use Rattle.key_port.specs.Answers.{Rules}
 use Rattle.daemon_words.specs.declared.command.Command.{Command}
 use Rattle.daemon_words.specs.declared.command.Command.TheVariants as command
-use Rattle.authority_daemon.specs.Served.{IsServed}
+use Rattle.authority_daemon.specs.{Served.IsServed, Commands.{Answers, May, asks_clock_if, signs_if, verifies_if}}
+use Rattle.authority_daemon.specs.Runs.{HasAsked, Ends, IsBeforeChecks, IsBeforeSigning, IsBeforeVotes, IsDoneOrMemory}
+use Rattle.authority_daemon.specs.Runs.{KeepsLimit, KnowsWords, MustAnswer, ReadsThrough, StopsReading, Told}
+use Rattle.authority_daemon.specs.{Runs.{WritesOnlyAnswers, input_of, reads_input_if}, Moments.{Moment, Telling}}
+use Rattle.authority_daemon.specs.Moments.{TellsFaults, TellsFaultsOr}
 use Rattle.exit_status.specs.declared.status.Refusal.TheVariants as refusal
 use Rattle.exit_status.specs.declared.status.Status.{Status}
 use Rattle.exit_status.specs.declared.status.Status.TheVariants as status
-use Rattle.authority_daemon.specs.Commands.{Answers, May, asks_clock_if, signs_if, verifies_if}
-use Rattle.authority_daemon.specs.Runs.{HasAsked, Ends, IsBeforeChecks, IsBeforeSigning, IsBeforeVotes}
-use Rattle.authority_daemon.specs.Runs.{IsDoneOrMemory, KeepsLimit}
-use Rattle.authority_daemon.specs.Moments.{Moment, Telling, TellsFaults, TellsFaultsOr}
-use Rattle.authority_daemon.specs.Runs.{KnowsWords, MustAnswer}
-use Rattle.authority_daemon.specs.Runs.{ReadsThrough, StopsReading, Told, WritesOnlyAnswers, input_of, reads_input_if}
 
 -- What a run without workers says that ends with a status, of the words, which give this command or none, and of what
 -- stands outside before and after it.

@@ -1,11 +1,9 @@
 // The command whose input is checked while it is read, over what stands outside.
 ghost use Rattle.std.specs.Prelude.{◌≡◌, ◌<◌, Some, vec_len};
 ghost use Rattle.key_port.specs.Answers.{rules};
-ghost use Rattle.authority_daemon.specs.Commands.{may};
-ghost use Rattle.authority_daemon.specs.Inside as its;
-ghost use Rattle.authority_daemon.specs.Inside.{IsComputed, LeavesOthers};
-ghost use Rattle.authority_daemon.specs.Runs.{first_count};
+ghost use Rattle.authority_daemon.specs.{Commands.may, Inside.{IsComputed, LeavesOthers}, Runs.first_count};
 ghost use Rattle.authority_daemon.specs.World.{IsRun};
+ghost use Rattle.authority_daemon.specs.Inside as its;
 
 use crate::outside::Stands;
 use crate::texts::INPUT_LIMIT;

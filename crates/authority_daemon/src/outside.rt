@@ -1,6 +1,5 @@
 // What stands outside the program, as clauses see it.
-ghost use Rattle.authority_daemon.specs.Runs.{first_count};
-ghost use Rattle.authority_daemon.specs.Moments.{Moment};
+ghost use Rattle.authority_daemon.specs.{Runs.first_count, Moments.Moment};
 
 use dir_bytes::{Clock, Sink, Source};
 use key_port::{Signer, Verifier};

@@ -2,12 +2,9 @@
 ghost use Rattle.std.specs.Prelude.{◌≡◌, ◌<◌};
 ghost use Rattle.key_port.specs.Answers.{rules};
 ghost use Rattle.daemon_words.specs.Words as grammar;
-ghost use Rattle.exit_status.specs.Lines.{line_of};
-ghost use Rattle.exit_status.specs.Reports.{Reports};
+ghost use Rattle.exit_status.specs.{Lines.line_of, Reports.Reports};
 ghost use Rattle.serve_command.specs.Serving.{HasWorkers};
-ghost use Rattle.authority_daemon.specs.Moments.{telling_of};
-ghost use Rattle.authority_daemon.specs.Commands.{may};
-ghost use Rattle.authority_daemon.specs.World.{AnswersWhatItMust, Runs};
+ghost use Rattle.authority_daemon.specs.{Moments.telling_of, Commands.may, World.{AnswersWhatItMust, Runs}};
 
 use crate::arriving::run_compute;
 use crate::outside::Stands;

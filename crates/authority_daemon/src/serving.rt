@@ -1,10 +1,8 @@
 // The command that serves, over what stands outside.
 ghost use Rattle.std.specs.Prelude.{◌≡◌};
 ghost use Rattle.serve_command.specs.Serving.{HasWorkers};
-ghost use Rattle.authority_daemon.specs.Commands.{may};
-ghost use Rattle.authority_daemon.specs.Moments.{telling_of};
+ghost use Rattle.authority_daemon.specs.{Commands.may, Moments.telling_of, Served.IsServed};
 ghost use Rattle.authority_daemon.specs.Served as its;
-ghost use Rattle.authority_daemon.specs.Served.{IsServed};
 
 use crate::outside::Stands;
 use crate::texts::INPUT_LIMIT;

@@ -1,10 +1,8 @@
 // The commands that write a text, over what stands outside.
 ghost use Rattle.std.specs.Prelude.{◌≡◌, ◌<◌, ◌^◌, Some, true, length, vec_len};
 ghost use Rattle.daemon_words.specs.Rehearsals.{IsWithinBounds};
-ghost use Rattle.authority_daemon.specs.Commands.{may, writes_text};
-ghost use Rattle.authority_daemon.specs.Inside.{IsAnswer, LeavesStreams};
-ghost use Rattle.authority_daemon.specs.Runs.{is_gathered};
-ghost use Rattle.authority_daemon.specs.World.{IsRun};
+ghost use Rattle.authority_daemon.specs.{Commands.{may, writes_text}, Inside.{IsAnswer, LeavesStreams}};
+ghost use Rattle.authority_daemon.specs.{Runs.is_gathered, World.IsRun};
 
 use crate::outside::Stands;
 use crate::telling::{check, health, show, vote};

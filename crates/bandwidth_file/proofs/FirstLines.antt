@@ -1,11 +1,9 @@
 -- The first line of some bytes, as a search for its NL finds it.
-use Rattle.std.proofs.Common.{◌≡◌, ℕ, ◌<◌, Bool, true, false, List, [], ◌∷◌, length, take, drop, Some, None, refl}
-use Rattle.std.proofs.Common.{sym, ap, ap₂, ◌∙◌, subst, arith}
-use Rattle.std.proofs.lemmas.Bool.{lt-ltb, le-ltb}
+use Rattle.std.proofs.Common.{◌≡◌, ℕ, ◌<◌, Bool, true, false, List, [], ◌∷◌, length, take, drop, Some, None, refl, sym}
+use Rattle.std.proofs.{Common.{ap, ap₂, ◌∙◌, subst, arith}, lemmas.Bool.{lt-ltb, le-ltb}}
 use Rattle.memchr.specs.Find.{IsFirstByte, is_byte}
 use Rattle.item_terms.specs.Lines.{Line, lines, size}
-use Rattle.dirdoc_grammar.specs.Reading.{first_line}
-use Rattle.dirdoc_grammar.proofs.FirstByte.{before_found, before_none}
+use Rattle.dirdoc_grammar.{specs.Reading.first_line, proofs.FirstByte.{before_found, before_none}}
 use Rattle.dirdoc_grammar.proofs.FirstLine.{lines_first}
 
 first_of : (rest : List ℕ) → 0 < length rest → lines rest ≡ first_line rest ∷ lines (drop (size (first_line rest)) rest)

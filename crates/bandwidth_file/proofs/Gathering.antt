@@ -1,7 +1,6 @@
 -- What the items of a longer list say.
-use Rattle.std.proofs.Common.{◌≡◌, List, [], ◌∷◌, ◌++◌, Option, Some, None, option_to_list, slice_get, refl, sym}
-use Rattle.std.proofs.Common.{ap, ◌∙◌, append-nil, append_assoc}
-use Rattle.std.specs.List.{cons_option}
+use Rattle.std.proofs.Common.{◌≡◌, List, [], ◌∷◌, ◌++◌, Option, Some, None, option_to_list, slice_get, refl, sym, ap}
+use Rattle.std.{proofs.Common.{◌∙◌, append-nil, append_assoc}, specs.List.cons_option}
 use Rattle.bandwidth_file.specs.Gathered.{gathered_values, gathered_behind}
 
 module _ {B : Type 0} where

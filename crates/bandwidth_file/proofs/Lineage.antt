@@ -1,21 +1,13 @@
 -- How far a file was read.
-use Rattle.std.proofs.Common.{◌≡◌, ℕ, ◌+◌, ◌-◌, ◌≤◌, List, [], ◌∷◌, ◌++◌, length, take, drop, Option, Some}
-use Rattle.std.proofs.Common.{slice_get, sym, ap, ◌∙◌, subst, arith, append_assoc, append-nil}
-use Rattle.std.specs.Option.{option_or}
-use Rattle.std.proofs.lemmas.List.{drop-drop, length-drop}
-use Rattle.std.proofs.Math.ListN.{drop_of_length-le}
+use Rattle.std.proofs.Common.{◌≡◌, ℕ, ◌+◌, ◌-◌, ◌≤◌, List, [], ◌∷◌, ◌++◌, length, take, drop, Option, Some, slice_get}
+use Rattle.std.proofs.{Common.{sym, ap, ◌∙◌, subst, arith, append_assoc, append-nil}, lemmas.List.drop-drop}
+use Rattle.std.{proofs.{lemmas.List.length-drop, Math.ListN.drop_of_length-le}, specs.Option.option_or}
 use Rattle.item_terms.specs.Lines.{Line, lines, size}
 use Rattle.dirdoc_grammar.proofs.FirstLine.{whole_rest}
-use Rattle.bandwidth_file.specs.declared.reading.Reading.{Reading}
-use Rattle.bandwidth_file.specs.declared.refusal.BandFault.{BandFault}
-use Rattle.bandwidth_file.specs.declared.refusal.BandRefusal.{BandRefusal}
-use Rattle.bandwidth_file.specs.declared.refusal.BandRefusal.TheVariants.{Fault, Memory}
-use Rattle.bandwidth_file.specs.Lines.{at, place_of}
-use Rattle.bandwidth_file.specs.Files.{fault_of, faults_of, first_fault, end_fault}
-use Rattle.bandwidth_file.specs.Lending.{Holds}
-use Rattle.bandwidth_file.specs.Refusals.{RefusedAs}
-use Rattle.bandwidth_file.proofs.Gathering.{gathered_first}
-use Rattle.bandwidth_file.proofs.Sections.{place_grows}
+use Rattle.bandwidth_file.specs.declared.{reading.Reading.Reading, refusal.BandFault.BandFault}
+use Rattle.bandwidth_file.specs.{declared.refusal.BandRefusal.{BandRefusal, TheVariants.{Fault, Memory}}, Lines.at}
+use Rattle.bandwidth_file.specs.{Lines.place_of, Files.{fault_of, faults_of, first_fault, end_fault}, Lending.Holds}
+use Rattle.bandwidth_file.{specs.Refusals.RefusedAs, proofs.{Gathering.gathered_first, Sections.place_grows}}
 
 -- The lines before a place were read, and this is kept of them.
 pub record IsReadTo (bytes : List ℕ) (place : ℕ) (reading : Reading) : Type 0 where

@@ -1,31 +1,21 @@
 -- That the first line gives no time is told of a byte of the input. That there is none is told of its length, and is no fault
 -- of a line.
-use Rattle.std.proofs.Common.{◌≡◌, ℕ, suc, ◌+◌, ◌<◌, ◌==◌, Bool, true, false, List, [], ◌∷◌, ◌++◌, length, Option, Some, None}
-use Rattle.std.proofs.Common.{slice_get, refl, sym, ap, ◌∙◌, arith, if◌then◌else◌}
-use Rattle.std.specs.Prelude.{All, is_none, nat_lt}
-use Rattle.std.specs.List.{cons_option, filter, list_any}
-use Rattle.std.specs.Option.{option_map, option_or}
-use Rattle.std.proofs.lemmas.List.Elements.{All-cons, All-head, All-nil, All-tail}
-use Rattle.item_terms.specs.Bytes.{line_feed}
-use Rattle.item_terms.specs.Lines.{Line, lines, onto, size}
-use Rattle.item_terms.specs.Words.{is_blank_line, nul_in}
+use Rattle.std.proofs.Common.{◌≡◌, ℕ, suc, ◌+◌, ◌<◌, ◌==◌, Bool, true, false, List, [], ◌∷◌, ◌++◌, length, Option, Some}
+use Rattle.std.proofs.Common.{None, slice_get, refl, sym, ap, ◌∙◌, arith, if◌then◌else◌}
+use Rattle.std.{proofs.lemmas.List.Elements.{All-cons, All-head, All-nil, All-tail}, specs.Prelude.{All, is_none}}
+use Rattle.std.specs.{Prelude.nat_lt, List.{cons_option, filter, list_any}, Option.{option_map, option_or}}
+use Rattle.item_terms.specs.{Bytes.line_feed, Lines.{Line, lines, onto, size}, Words.{is_blank_line, nul_in}}
 use Rattle.dir_bytes.specs.Fields.{number}
-use Rattle.dir_values.specs.Arguments.{Argument}
-use Rattle.dir_values.specs.Numbers.{number_of}
-use Rattle.dir_values.specs.declared.digest.Fingerprint.{Fingerprint}
-use Rattle.bandwidth_file.specs.declared.refusal.BandFault.{BandFault}
-use Rattle.bandwidth_file.specs.declared.refusal.BandReason.{BandReason}
+use Rattle.dir_values.specs.{Arguments.Argument, Numbers.number_of, declared.digest.Fingerprint.Fingerprint}
+use Rattle.bandwidth_file.specs.declared.{refusal.{BandFault.BandFault, BandReason.BandReason}, said.Row.Row}
+use Rattle.bandwidth_file.specs.{declared.section.Section.Section, Files.{end_fault, fault_in, fault_of, faults_of}}
+use Rattle.bandwidth_file.specs.Files.{filled_line, is_filled, is_separator, names_relay, rows_of, said_if, section_of}
+use Rattle.bandwidth_file.specs.{Files.time_said, Gathered.gathered_behind, Lines.{at, bw, last_value, line_fault}}
+use Rattle.bandwidth_file.specs.{Lines.{max_line, node_id, place_of, vote}, Relays.{identity_in, is_no_vote}}
+use Rattle.bandwidth_file.{specs.Relays.{relay_line, relay_said, row_said}, proofs.Sections.place_grows}
 use Rattle.bandwidth_file.specs.declared.refusal.BandReason.TheVariants as reason
-use Rattle.bandwidth_file.specs.declared.said.Row.{Row}
 use Rattle.bandwidth_file.specs.declared.said.Said.TheVariants as said
-use Rattle.bandwidth_file.specs.declared.section.Section.{Section}
 use Rattle.bandwidth_file.specs.declared.section.Section.TheVariants as section
-use Rattle.bandwidth_file.specs.Files.{end_fault, fault_in, fault_of, faults_of, filled_line, is_filled, is_separator}
-use Rattle.bandwidth_file.specs.Files.{names_relay, rows_of, said_if, section_of, time_said}
-use Rattle.bandwidth_file.specs.Gathered.{gathered_behind}
-use Rattle.bandwidth_file.specs.Lines.{at, bw, last_value, line_fault, max_line, node_id, place_of, vote}
-use Rattle.bandwidth_file.specs.Relays.{identity_in, is_no_vote, relay_line, relay_said, row_said}
-use Rattle.bandwidth_file.proofs.Sections.{place_grows}
 
 -- the fault that a line at a place gives no time
 abbrev no_time : ℕ → Option BandFault

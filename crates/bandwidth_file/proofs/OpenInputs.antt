@@ -1,16 +1,12 @@
 -- The first fault of an input, by whether a line ends the bandwidth file.
-use Rattle.std.proofs.Common.{◌≡◌, ◌≢◌, ◌⊎◌, inl, inr, ℕ, List, length, take, slice_get, Option, Some, None, refl, sym, ap, ◌∙◌, subst}
-use Rattle.std.specs.Option.{option_or}
+use Rattle.std.proofs.Common.{◌≡◌, ◌≢◌, ◌⊎◌, inl, inr, ℕ, List, length, take, slice_get, Option, Some, None, refl, sym}
+use Rattle.std.{proofs.Common.{ap, ◌∙◌, subst}, specs.Option.option_or}
 use Rattle.item_terms.specs.Lines.{lines}
-use Rattle.bandwidth_file.specs.Files.{end_fault, faults_of, first_fault}
-use Rattle.bandwidth_file.specs.Lines.{at}
-use Rattle.bandwidth_file.specs.Refusals.{RefusedAs}
-use Rattle.bandwidth_file.specs.declared.refusal.BandFault.{BandFault}
-use Rattle.bandwidth_file.specs.declared.refusal.BandReason.{BandReason}
-use Rattle.bandwidth_file.specs.declared.refusal.BandReason.TheVariants.{Timestamp, Unterminated}
-use Rattle.bandwidth_file.specs.declared.refusal.BandRefusal.{BandRefusal}
-use Rattle.bandwidth_file.specs.Fronts.{end_place, fault_before, front_fault, open_fault}
-use Rattle.bandwidth_file.proofs.NoTimes.{end_there, never_at_end}
+use Rattle.bandwidth_file.specs.{Files.{end_fault, faults_of, first_fault}, Lines.at, Refusals.RefusedAs}
+use Rattle.bandwidth_file.specs.declared.refusal.{BandFault.BandFault, BandReason.{BandReason, TheVariants.Timestamp}}
+use Rattle.bandwidth_file.specs.declared.refusal.{BandReason.TheVariants.Unterminated, BandRefusal.BandRefusal}
+use Rattle.bandwidth_file.{specs.Fronts.{end_place, fault_before, front_fault, open_fault}, proofs.NoTimes.end_there}
+use Rattle.bandwidth_file.proofs.NoTimes.{never_at_end}
 
 abbrev goes_on : List ℕ → BandFault
 goes_on bytes = at (length bytes) Unterminated

@@ -1,21 +1,15 @@
 -- The lines that were passed over, none of which ends the bandwidth file.
 use Rattle.std.proofs.Common.{◌≡◌, ℕ, ◌+◌, ◌-◌, ◌<◌, ◌≤◌, Bool, true, false, List, [], ◌∷◌, ◌++◌, length, take, drop}
 use Rattle.std.proofs.Common.{Some, None, refl, sym, ap, ap₂, ◌∙◌, arith, append_assoc, append-nil}
-use Rattle.std.specs.Prelude.{◌&&◌, ◌||◌, not, codes, if◌then◌else◌}
-use Rattle.std.specs.List.{list_any}
-use Rattle.std.proofs.lemmas.List.{length-drop, length-take}
-use Rattle.std.proofs.lemmas.List.Folds.{list_any-append}
-use Rattle.std.proofs.lemmas.List.Sums.{take_while-cons}
-use Rattle.std.proofs.lemmas.Slice.Eq.{bytes_eq-Decides}
-use Rattle.std.proofs.Math.ListN.{drop_of_length-le}
+use Rattle.std.proofs.lemmas.List.{length-drop, length-take, Folds.list_any-append, Sums.take_while-cons}
+use Rattle.std.{proofs.{lemmas.Slice.Eq.bytes_eq-Decides, Math.ListN.drop_of_length-le}, specs.Prelude.{◌&&◌, ◌||◌}}
+use Rattle.std.specs.{Prelude.{not, codes, if◌then◌else◌}, List.list_any}
 use Rattle.memchr.specs.Find.{IsFirstByte, is_byte}
 use Rattle.item_terms.specs.Lines.{Line, lines, size}
 use Rattle.dirdoc_grammar.proofs.FirstLine.{whole_rest}
-use Rattle.bandwidth_file.proofs.FirstLines.{ended_line, open_line}
-use Rattle.bandwidth_file.proofs.Lineage.{split_at}
-use Rattle.bandwidth_file.proofs.Sections.{place_grows}
-use Rattle.bandwidth_file.specs.Lines.{place_of}
-use Rattle.bandwidth_file.specs.Fronts.{end_among, end_place, end_size, is_end, is_end_text, lines_before}
+use Rattle.bandwidth_file.proofs.{FirstLines.{ended_line, open_line}, Lineage.split_at, Sections.place_grows}
+use Rattle.bandwidth_file.specs.{Lines.place_of, Fronts.{end_among, end_place, end_size, is_end, is_end_text}}
+use Rattle.bandwidth_file.specs.Fronts.{lines_before}
 
 -- Lines before a place were passed over.
 pub record IsPassed (bytes : List ℕ) (place : ℕ) : Type 0 where

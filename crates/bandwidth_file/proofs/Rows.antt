@@ -1,24 +1,16 @@
 -- What one row more changes, and what a tree of identities holds.
-use Rattle.std.proofs.Common.{◌≡◌, ℕ, ◌+◌, ◌==◌, ◌&&◌, Bool, true, false, cond, List, [], ◌∷◌, ◌++◌, length}
-use Rattle.std.proofs.Common.{reverse, Option, Some, None, option_to_list, is_none, is_some, refl, sym, ap, ap₂}
-use Rattle.std.proofs.Common.{◌∙◌, if◌then◌else◌}
-use Rattle.std.specs.List.{find}
-use Rattle.std.specs.Map.{lookup}
-use Rattle.std.specs.Option.{option_map}
-use Rattle.std.specs.Ordering.{nat_cmp, is_eq}
-use Rattle.std.specs.Cmp.Lexicographic.{slice_cmp, texts_ties}
-use Rattle.std.proofs.lemmas.List.{reverse-append, length-append}
-use Rattle.dir_values.proofs.WordSets.{ties_as_one}
-use Rattle.dir_values.specs.Digests.{same_identity}
+use Rattle.std.proofs.Common.{◌≡◌, ℕ, ◌+◌, ◌==◌, ◌&&◌, Bool, true, false, cond, List, [], ◌∷◌, ◌++◌, length, reverse}
+use Rattle.std.proofs.Common.{Option, Some, None, option_to_list, is_none, is_some, refl, sym, ap, ap₂, ◌∙◌}
+use Rattle.std.{proofs.{Common.if◌then◌else◌, lemmas.List.{reverse-append, length-append}}, specs.List.find}
+use Rattle.std.specs.{Map.lookup, Option.option_map, Ordering.{nat_cmp, is_eq}, Cmp.Lexicographic.slice_cmp}
+use Rattle.std.specs.Cmp.Lexicographic.{texts_ties}
+use Rattle.dir_values.{proofs.WordSets.ties_as_one, specs.Digests.same_identity}
 use Rattle.dir_values.specs.declared.digest.Fingerprint.{Fingerprint}
-use Rattle.bandwidth_file.specs.declared.said.Row.{Row}
-use Rattle.bandwidth_file.specs.declared.refusal.BandReason.TheVariants as reason
-use Rattle.bandwidth_file.specs.Files.{max_relays, many_fault}
-use Rattle.bandwidth_file.specs.Lines.{at}
-use Rattle.bandwidth_file.specs.Gathered.{gathered_values}
-use Rattle.bandwidth_file.specs.Relays.{last_bandwidth, new_row, number_of_identities, bandwidth_in}
-use Rattle.bandwidth_file.specs.Lending.{one_if_new, is_over, HasRow, HasRows}
+use Rattle.bandwidth_file.specs.{declared.said.Row.Row, Files.{max_relays, many_fault}, Lines.at}
+use Rattle.bandwidth_file.specs.{Gathered.gathered_values, Relays.{last_bandwidth, new_row, number_of_identities}}
+use Rattle.bandwidth_file.specs.{Relays.bandwidth_in, Lending.{one_if_new, is_over, HasRow, HasRows}}
 use Rattle.bandwidth_file.proofs.Gathering.{gathered_one}
+use Rattle.bandwidth_file.specs.declared.refusal.BandReason.TheVariants as reason
 
 abbrev Found : Bool → Row → Option Row → Option ℕ
 Found same row other = option_map (λ (r : Row). r.bandwidth) (cond same (Some row) other)

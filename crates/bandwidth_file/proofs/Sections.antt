@@ -1,17 +1,11 @@
 -- The section and the place behind one more line.
 use Rattle.std.proofs.Common.{◌≡◌, ℕ, ◌+◌, Bool, true, false, cond, not, ◌||◌, List, [], ◌∷◌, ◌++◌, refl, ap, ◌∙◌}
-use Rattle.std.proofs.Common.{arith, if◌then◌else◌}
-use Rattle.std.specs.List.{filter, list_any}
-use Rattle.std.proofs.lemmas.List.{append-nil}
-use Rattle.std.proofs.lemmas.List.Elements.{filter-append}
-use Rattle.std.proofs.lemmas.List.Folds.{list_any-append}
-use Rattle.item_terms.specs.Lines.{Line, size}
-use Rattle.item_terms.specs.Words.{is_blank_line}
-use Rattle.bandwidth_file.specs.declared.section.Section.{Section}
+use Rattle.std.proofs.{Common.{arith, if◌then◌else◌}, lemmas.List.{append-nil, Elements.filter-append}}
+use Rattle.std.{proofs.lemmas.List.Folds.list_any-append, specs.List.{filter, list_any}}
+use Rattle.item_terms.specs.{Lines.{Line, size}, Words.is_blank_line}
+use Rattle.bandwidth_file.specs.{declared.section.Section.Section, Lines.place_of, Files.{is_filled, ends_header}}
+use Rattle.bandwidth_file.specs.{Files.{section_behind, section_of}, Lending.next_section}
 use Rattle.bandwidth_file.specs.declared.section.Section.TheVariants as section
-use Rattle.bandwidth_file.specs.Lines.{place_of}
-use Rattle.bandwidth_file.specs.Files.{is_filled, ends_header, section_behind, section_of}
-use Rattle.bandwidth_file.specs.Lending.{next_section}
 
 abbrev line_ends_header : Line → Bool
 line_ends_header line = ends_header line.text

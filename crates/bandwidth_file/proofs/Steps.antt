@@ -1,30 +1,21 @@
 -- What is known once one more line was read.
-use Rattle.std.proofs.Common.{◌≡◌, ℕ, ◌==◌, Bool, true, false, List, [], ◌∷◌, ◌++◌, Option, Some, None}
-use Rattle.std.proofs.Common.{option_to_list, unwrap_or, refl, sym, ap, ap₂, ◌∙◌, subst, append-nil, if◌then◌else◌}
+use Rattle.std.proofs.Common.{◌≡◌, ℕ, ◌==◌, Bool, true, false, List, [], ◌∷◌, ◌++◌, Option, Some, None, option_to_list}
+use Rattle.std.proofs.Common.{unwrap_or, refl, sym, ap, ap₂, ◌∙◌, subst, append-nil, if◌then◌else◌}
 use Rattle.std.specs.List.{list_any}
-use Rattle.item_terms.specs.Lines.{Line}
-use Rattle.item_terms.specs.Words.{is_blank_line}
+use Rattle.item_terms.specs.{Lines.Line, Words.is_blank_line}
 use Rattle.dir_bytes.specs.Fields.{number}
-use Rattle.dir_values.specs.Arguments.{Argument}
-use Rattle.dir_values.specs.Numbers.{number_of}
-use Rattle.dir_values.specs.declared.digest.Fingerprint.{Fingerprint}
-use Rattle.bandwidth_file.specs.declared.file.Header.{Header}
-use Rattle.bandwidth_file.specs.declared.reading.Reading.{Reading}
-use Rattle.bandwidth_file.specs.declared.refusal.BandFault.{BandFault}
-use Rattle.bandwidth_file.specs.declared.refusal.BandReason.TheVariants as reason
-use Rattle.bandwidth_file.specs.declared.said.Row.{Row}
-use Rattle.bandwidth_file.specs.declared.said.Said.{Said}
-use Rattle.bandwidth_file.specs.declared.said.Said.TheVariants as said
-use Rattle.bandwidth_file.specs.declared.section.Section.{Section}
-use Rattle.bandwidth_file.specs.declared.section.Section.TheVariants as section
-use Rattle.bandwidth_file.specs.Lines.{at, place_of, line_fault, last_value, node_id, bw, vote}
-use Rattle.bandwidth_file.specs.Relays.{is_no_vote, row_said, relay_said, relay_line, identity_in}
-use Rattle.bandwidth_file.specs.Files.{is_separator, names_relay, ends_header, section_of, time_said, header_line}
-use Rattle.bandwidth_file.specs.Files.{filled_line, said_if, said_by, time_in, header_in, row_in, rows_of, fault_in}
-use Rattle.bandwidth_file.specs.Files.{fault_of}
-use Rattle.bandwidth_file.specs.Lending.{next_section, time_if, HasRows, Holds, Keeps}
-use Rattle.bandwidth_file.proofs.Gathering.{gathered_one}
+use Rattle.dir_values.specs.{Arguments.Argument, Numbers.number_of, declared.digest.Fingerprint.Fingerprint}
+use Rattle.bandwidth_file.specs.declared.{file.Header.Header, reading.Reading.Reading, refusal.BandFault.BandFault}
+use Rattle.bandwidth_file.specs.{declared.{said.{Row.Row, Said.Said}, section.Section.Section}, Lines.{at, place_of}}
+use Rattle.bandwidth_file.specs.{Lines.{line_fault, last_value, node_id, bw, vote}, Relays.{is_no_vote, row_said}}
+use Rattle.bandwidth_file.specs.{Relays.{relay_said, relay_line, identity_in}, Files.{is_separator, names_relay}}
+use Rattle.bandwidth_file.specs.Files.{ends_header, section_of, time_said, header_line, filled_line, said_if, said_by}
+use Rattle.bandwidth_file.specs.{Files.{time_in, header_in, row_in, rows_of, fault_in, fault_of}, Lending.next_section}
+use Rattle.bandwidth_file.{specs.Lending.{time_if, HasRows, Holds, Keeps}, proofs.Gathering.gathered_one}
 use Rattle.bandwidth_file.proofs.Sections.{section_grows}
+use Rattle.bandwidth_file.specs.declared.refusal.BandReason.TheVariants as reason
+use Rattle.bandwidth_file.specs.declared.said.Said.TheVariants as said
+use Rattle.bandwidth_file.specs.declared.section.Section.TheVariants as section
 
 -- ---- only the first line gives a time
 

@@ -1,25 +1,17 @@
 -- Bandwidth files as relations over their whole lines: the time of measuring, header lines, relay lines.
-use Rattle.std.specs.Prelude.{◌≡◌, ℕ, ◌==◌, ◌&&◌, ◌||◌, not, Bool, List, [], ◌∷◌, Option, Some, None, is_none}
-use Rattle.std.specs.Prelude.{is_some, if◌then◌else◌, codes, slice_get}
-use Rattle.std.specs.List.{filter, list_any, before_first, after_first}
-use Rattle.std.specs.Option.{option_or}
-use Rattle.std.specs.Str.{bytes_eq}
-use Rattle.item_terms.specs.Lines.{Line, lines}
-use Rattle.item_terms.specs.Words.{is_blank_line}
+use Rattle.std.specs.Prelude.{◌≡◌, ℕ, ◌==◌, ◌&&◌, ◌||◌, not, Bool, List, [], ◌∷◌, Option, Some, None, is_none, is_some}
+use Rattle.std.specs.{Prelude.{if◌then◌else◌, codes, slice_get}, List.{filter, list_any, before_first, after_first}}
+use Rattle.std.specs.{Option.option_or, Str.bytes_eq}
+use Rattle.item_terms.specs.{Lines.{Line, lines}, Words.is_blank_line}
 use Rattle.dir_bytes.specs.Fields.{number}
 use Rattle.dir_values.specs.declared.digest.Fingerprint.{Fingerprint}
-use Rattle.bandwidth_file.specs.declared.file.BandFile.{BandFile}
-use Rattle.bandwidth_file.specs.declared.file.Header.{Header}
-use Rattle.bandwidth_file.specs.declared.refusal.BandReason.TheVariants as reason
-use Rattle.bandwidth_file.specs.declared.refusal.BandFault.{BandFault}
-use Rattle.bandwidth_file.specs.declared.said.Row.{Row}
-use Rattle.bandwidth_file.specs.declared.said.Said.{Said}
-use Rattle.bandwidth_file.specs.declared.said.Said.TheVariants as said
-use Rattle.bandwidth_file.specs.declared.section.Section.{Section}
-use Rattle.bandwidth_file.specs.declared.section.Section.TheVariants as section
-use Rattle.bandwidth_file.specs.Gathered.{gathered_values}
-use Rattle.bandwidth_file.specs.Lines.{at, place_of, line_fault, last_value, node_id}
+use Rattle.bandwidth_file.specs.declared.{file.{BandFile.BandFile, Header.Header}, refusal.BandFault.BandFault}
+use Rattle.bandwidth_file.specs.declared.{said.{Row.Row, Said.Said}, section.Section.Section}
+use Rattle.bandwidth_file.specs.{Gathered.gathered_values, Lines.{at, place_of, line_fault, last_value, node_id}}
 use Rattle.bandwidth_file.specs.Relays.{relay_line, last_bandwidth, number_of_identities, bandwidth_in, Ascend}
+use Rattle.bandwidth_file.specs.declared.refusal.BandReason.TheVariants as reason
+use Rattle.bandwidth_file.specs.declared.said.Said.TheVariants as said
+use Rattle.bandwidth_file.specs.declared.section.Section.TheVariants as section
 
 -- the identities that a file may have
 abbrev pub max_relays : ℕ

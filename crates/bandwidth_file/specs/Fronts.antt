@@ -1,14 +1,9 @@
 -- A bandwidth file in front of other input: the lines up to the first one that ends it.
 use Rattle.std.specs.Prelude.{◌≡◌, ℕ, ◌+◌, ◌&&◌, not, Bool, List, length, take, codes, slice_get, Option, Some, None}
-use Rattle.std.specs.Prelude.{if◌then◌else◌}
-use Rattle.std.specs.List.{list_any, take_while}
-use Rattle.std.specs.Option.{option_or}
-use Rattle.std.specs.Str.{bytes_eq}
+use Rattle.std.specs.{Prelude.if◌then◌else◌, List.{list_any, take_while}, Option.option_or, Str.bytes_eq}
 use Rattle.item_terms.specs.Lines.{Line, lines}
-use Rattle.bandwidth_file.specs.Files.{IsBandFile, faults_of, first_fault}
-use Rattle.bandwidth_file.specs.Lines.{at, place_of}
-use Rattle.bandwidth_file.specs.declared.file.BandFile.{BandFile}
-use Rattle.bandwidth_file.specs.declared.refusal.BandFault.{BandFault}
+use Rattle.bandwidth_file.specs.{Files.{IsBandFile, faults_of, first_fault}, Lines.{at, place_of}}
+use Rattle.bandwidth_file.specs.declared.{file.BandFile.BandFile, refusal.BandFault.BandFault}
 use Rattle.bandwidth_file.specs.declared.refusal.BandReason.TheVariants.{Unterminated}
 
 -- the text of the line that ends a bandwidth file

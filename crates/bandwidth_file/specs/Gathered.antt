@@ -1,6 +1,5 @@
 -- What each item of a list says that stands behind those before it.
-use Rattle.std.specs.Prelude.{List, [], ◌∷◌, ◌++◌, Option}
-use Rattle.std.specs.List.{cons_option}
+use Rattle.std.specs.{Prelude.{List, [], ◌∷◌, ◌++◌, Option}, List.cons_option}
 
 module _ {A B : Type 0} where
   -- what items say that stand behind others, in their order, of those that say something

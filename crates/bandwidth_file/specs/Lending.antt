@@ -1,22 +1,14 @@
 -- What the private functions of this crate say.
 use Rattle.std.specs.Prelude.{◌≡◌, ℕ, ◌==◌, ◌&&◌, Bool, List, [], ◌∷◌, ◌++◌, length, Option, Some, None, is_none}
-use Rattle.std.specs.Prelude.{is_some, unwrap_or, option_to_list, if◌then◌else◌}
-use Rattle.std.specs.Option.{option_map}
+use Rattle.std.specs.{Prelude.{is_some, unwrap_or, option_to_list, if◌then◌else◌}, Option.option_map}
 use Rattle.item_terms.specs.Lines.{Line}
-use Rattle.dir_values.specs.Arguments.{Argument}
-use Rattle.dir_values.specs.Digests.{same_identity}
-use Rattle.dir_values.specs.Taking.{argument_of}
-use Rattle.dir_values.specs.declared.digest.Fingerprint.{Fingerprint}
-use Rattle.dir_values.specs.declared.arguments.Argument.{Argument as TextAt}
-use Rattle.bandwidth_file.specs.declared.line.LineText.{LineText}
-use Rattle.bandwidth_file.specs.declared.reading.Reading.{Reading}
-use Rattle.bandwidth_file.specs.declared.said.Row.{Row}
-use Rattle.bandwidth_file.specs.declared.said.Said.{Said}
-use Rattle.bandwidth_file.specs.declared.section.Section.{Section}
+use Rattle.dir_values.specs.{Arguments.Argument, Digests.same_identity, Taking.argument_of}
+use Rattle.dir_values.specs.declared.{digest.Fingerprint.Fingerprint, arguments.Argument.Argument as TextAt}
+use Rattle.bandwidth_file.specs.declared.{line.LineText.LineText, reading.Reading.Reading, said.{Row.Row, Said.Said}}
+use Rattle.bandwidth_file.specs.{declared.section.Section.Section, Relays.{bandwidth_in, last_bandwidth}}
+use Rattle.bandwidth_file.specs.{Relays.number_of_identities, Files.{max_relays, ends_header, section_of, time_in}}
+use Rattle.bandwidth_file.specs.Files.{header_in, row_in, times_of, headers_of, rows_of, fault_in, faults_of}
 use Rattle.bandwidth_file.specs.declared.section.Section.TheVariants as section
-use Rattle.bandwidth_file.specs.Relays.{bandwidth_in, last_bandwidth, number_of_identities}
-use Rattle.bandwidth_file.specs.Files.{max_relays, ends_header, section_of, time_in, header_in, row_in, times_of}
-use Rattle.bandwidth_file.specs.Files.{headers_of, rows_of, fault_in, faults_of}
 
 -- a line as a contract sees it
 abbrev pub line_seen : LineText → Line

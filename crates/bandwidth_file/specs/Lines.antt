@@ -1,11 +1,9 @@
 -- The lines of a bandwidth file: their places, what is wrong with them whatever stands in them, and their items.
 use Rattle.std.specs.Prelude.{ℕ, ◌+◌, nat_lt, List, [], ◌∷◌, length, Option, Some, None, if◌then◌else◌, codes}
 use Rattle.std.specs.Option.{option_map, option_or}
-use Rattle.item_terms.specs.Lines.{Line, size}
-use Rattle.item_terms.specs.Words.{nul_in, strip}
+use Rattle.item_terms.specs.{Lines.{Line, size}, Words.{nul_in, strip}}
 use Rattle.dir_values.specs.Arguments.{Argument, arguments_at}
-use Rattle.bandwidth_file.specs.declared.refusal.BandReason.{BandReason}
-use Rattle.bandwidth_file.specs.declared.refusal.BandReason.TheVariants.{Nul, Unterminated, LineTooLong}
+use Rattle.bandwidth_file.specs.declared.refusal.BandReason.{BandReason, TheVariants.{Nul, Unterminated, LineTooLong}}
 use Rattle.bandwidth_file.specs.declared.refusal.BandFault.{BandFault}
 
 -- the bytes that a line may have, with its NL

@@ -1,9 +1,7 @@
 -- What a refusal says.
 use Rattle.std.specs.Prelude.{◌≡◌, Option, Some}
-use Rattle.bandwidth_file.specs.declared.refusal.BandFault.{BandFault}
-use Rattle.bandwidth_file.specs.declared.refusal.BandRefusal.{BandRefusal}
-use Rattle.bandwidth_file.specs.declared.refusal.BandRefusal.TheVariants.{Fault, Memory}
-use Rattle.bandwidth_file.specs.Lines.{at}
+use Rattle.bandwidth_file.specs.declared.refusal.{BandFault.BandFault, BandRefusal.{BandRefusal, TheVariants.Fault}}
+use Rattle.bandwidth_file.specs.{declared.refusal.BandRefusal.TheVariants.Memory, Lines.at}
 
 -- a fault is the one that there is; want of memory may come with any
 abbrev pub RefusedAs : Option BandFault → BandRefusal → Type 0

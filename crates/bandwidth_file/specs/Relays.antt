@@ -1,24 +1,14 @@
 -- What a relay line says, and what relay lines say together.
 use Rattle.std.specs.Prelude.{ℕ, min, Bool, false, List, length, drop, reverse, nat_eq, Option, Some, None, is_some}
-use Rattle.std.specs.Prelude.{if◌then◌else◌, codes}
-use Rattle.std.specs.List.{find, starts_with}
-use Rattle.std.specs.Option.{option_map}
-use Rattle.std.specs.Str.{bytes_eq}
-use Rattle.std.specs.Map.{lookup, keys_of}
-use Rattle.std.specs.List.Sorted.{IsStrictlySortedBy}
-use Rattle.std.specs.Cmp.Lexicographic.{slice_cmp}
-use Rattle.std.specs.Ordering.{nat_cmp}
-use Rattle.std.specs.declared.cmp.Ordering.{Ordering}
-use Rattle.dir_values.specs.Arguments.{Argument}
-use Rattle.dir_values.specs.Digests.{fingerprint, same_identity}
-use Rattle.dir_values.specs.Numbers.{number_of}
+use Rattle.std.specs.{Prelude.{if◌then◌else◌, codes}, List.{find, starts_with, Sorted.IsStrictlySortedBy}}
+use Rattle.std.specs.{Option.option_map, Str.bytes_eq, Map.{lookup, keys_of}, Cmp.Lexicographic.slice_cmp}
+use Rattle.std.specs.{Ordering.nat_cmp, declared.cmp.Ordering.Ordering}
+use Rattle.dir_values.specs.{Arguments.Argument, Digests.{fingerprint, same_identity}, Numbers.number_of}
 use Rattle.dir_values.specs.declared.digest.Fingerprint.{Fingerprint}
 use Rattle.bandwidth_file.specs.declared.refusal.BandReason.TheVariants as reason
-use Rattle.bandwidth_file.specs.declared.said.Row.{Row}
-use Rattle.bandwidth_file.specs.declared.said.Said.{Said}
+use Rattle.bandwidth_file.specs.{declared.said.{Row.Row, Said.Said}, Gathered.gathered_values, Lines.{at, last_value}}
+use Rattle.bandwidth_file.specs.Lines.{node_id, bw, vote}
 use Rattle.bandwidth_file.specs.declared.said.Said.TheVariants as said
-use Rattle.bandwidth_file.specs.Gathered.{gathered_values}
-use Rattle.bandwidth_file.specs.Lines.{at, last_value, node_id, bw, vote}
 
 -- the text without a `$` in front
 abbrev pub without_dollar : List ℕ → List ℕ

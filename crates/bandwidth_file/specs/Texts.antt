@@ -1,11 +1,8 @@
 -- The text of a bandwidth file.
-use Rattle.std.specs.Prelude.{ℕ, List, [], ◌∷◌, ◌++◌, codes, decimal}
-use Rattle.std.specs.List.{flat_map}
+use Rattle.std.specs.{Prelude.{ℕ, List, [], ◌∷◌, ◌++◌, codes, decimal}, List.flat_map}
 use Rattle.item_terms.specs.Bytes.{line_feed}
-use Rattle.dir_values.specs.Digests.{fingerprint_text}
-use Rattle.dir_values.specs.declared.digest.Fingerprint.{Fingerprint}
-use Rattle.bandwidth_file.specs.declared.file.BandFile.{BandFile}
-use Rattle.bandwidth_file.specs.declared.file.Header.{Header}
+use Rattle.dir_values.specs.{Digests.fingerprint_text, declared.digest.Fingerprint.Fingerprint}
+use Rattle.bandwidth_file.specs.declared.file.{BandFile.BandFile, Header.Header}
 
 -- a header line
 abbrev pub header_text : Header → List ℕ

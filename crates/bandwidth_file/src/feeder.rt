@@ -1,8 +1,7 @@
 // Bandwidth files that arrive in pieces.
 ghost use Rattle.std.specs.Prelude.{◌≡◌, [], ◌++◌, IfErr, IfOk, OnOk, OnErr};
 ghost use Rattle.item_terms.specs.Lines.{lines};
-ghost use Rattle.bandwidth_file.specs.Files.{IsBandFile, first_fault};
-ghost use Rattle.bandwidth_file.specs.Refusals.{RefusedAs};
+ghost use Rattle.bandwidth_file.specs.{Files.{IsBandFile, first_fault}, Refusals.RefusedAs};
 
 use crate::file::BandFile;
 use crate::reading::read;

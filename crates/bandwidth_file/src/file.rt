@@ -1,7 +1,6 @@
 // Bandwidth files as their content.
 ghost use Rattle.std.specs.Prelude.{◌≡◌, ◌↔◌, IsTrue};
-ghost use Rattle.bandwidth_file.specs.Ages.{IsOld};
-ghost use Rattle.bandwidth_file.specs.Relays.{bandwidth_in};
+ghost use Rattle.bandwidth_file.specs.{Ages.IsOld, Relays.bandwidth_in};
 
 use crate::relays::Relays;
 use dir_bytes::{Seq, Text};

@@ -1,10 +1,8 @@
 // Reading the bandwidth file in front of other input.
 ghost use Rattle.std.specs.Prelude.{◌≡◌, ◌+◌, ◌≤◌, length, IfErr, IfOk, Some};
 ghost use Rattle.item_terms.specs.Lines.{lines};
-ghost use Rattle.bandwidth_file.specs.Files.{first_fault};
-ghost use Rattle.bandwidth_file.specs.Lines.{at};
-ghost use Rattle.bandwidth_file.specs.Refusals.{RefusedAs};
-ghost use Rattle.bandwidth_file.specs.Fronts.{IsFront, end_place, end_size, front_fault, open_fault};
+ghost use Rattle.bandwidth_file.specs.{Files.first_fault, Lines.at, Refusals.RefusedAs, Fronts.{IsFront, end_place}};
+ghost use Rattle.bandwidth_file.specs.Fronts.{end_size, front_fault, open_fault};
 
 use crate::ends::{END_SIZE, end_place};
 use crate::file::BandFile;

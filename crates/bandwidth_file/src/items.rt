@@ -1,6 +1,5 @@
 // The items of a line that count.
-ghost use Rattle.std.specs.Prelude.{◌≡◌, ◌+◌, ◌<◌, ◌^◌, length};
-ghost use Rattle.std.specs.Option.{option_or};
+ghost use Rattle.std.specs.{Prelude.{◌≡◌, ◌+◌, ◌<◌, ◌^◌, length}, Option.option_or};
 ghost use Rattle.dir_values.specs.Taking.{argument_of};
 ghost use Rattle.bandwidth_file.specs.Lending.{item_seen};
 ghost use Rattle.bandwidth_file.specs.Lines as its;

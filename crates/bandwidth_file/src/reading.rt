@@ -1,13 +1,11 @@
 // Reading a bandwidth file, line by line.
 ghost use Rattle.std.specs.Prelude.{◌≡◌, ◌+◌, ◌<◌, ◌^◌, ◌++◌, ◌∷◌, [], List, ℕ, None, IfErr, IfOk, OnOk, length};
 ghost use Rattle.item_terms.specs.Lines.{Line, lines, size};
-ghost use Rattle.bandwidth_file.specs.declared.said.Row.{Row};
+ghost use Rattle.bandwidth_file.specs.{declared.said.Row.Row, Files.IsBandFile, Refusals.RefusedAs, Lending.Holds};
+ghost use Rattle.bandwidth_file.specs.Lending.{HasRows, Keeps, line_seen};
 ghost use Rattle.bandwidth_file.specs.Files as files;
-ghost use Rattle.bandwidth_file.specs.Files.{IsBandFile};
 ghost use Rattle.bandwidth_file.specs.Lines as its;
 ghost use Rattle.bandwidth_file.specs.Lending as lending;
-ghost use Rattle.bandwidth_file.specs.Refusals.{RefusedAs};
-ghost use Rattle.bandwidth_file.specs.Lending.{Holds, HasRows, Keeps, line_seen};
 
 use crate::file::{BandFile, Header};
 use crate::line::{LineText, first_line, is_blank_line, line_fault, size_of};

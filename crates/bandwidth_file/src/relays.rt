@@ -1,9 +1,7 @@
 // The measured bandwidths of relays by their identities.
-ghost use Rattle.std.specs.Prelude.{◌≡◌, ◌==◌, ◌+◌, ◌++◌, length, [], IfOk, OnOk};
-ghost use Rattle.std.specs.List.{flat_map};
+ghost use Rattle.std.specs.{Prelude.{◌≡◌, ◌==◌, ◌+◌, ◌++◌, length, [], IfOk, OnOk}, List.flat_map};
 ghost use Rattle.bandwidth_file.specs.Relays as its;
-ghost use Rattle.bandwidth_file.specs.Texts.{relay_text};
-ghost use Rattle.bandwidth_file.specs.Lending.{HasRow, one_if_new};
+ghost use Rattle.bandwidth_file.specs.{Texts.relay_text, Lending.{HasRow, one_if_new}};
 
 use crate::said::Row;
 use dir_bytes::{Memory, push_decimal};

@@ -2,11 +2,9 @@
 ghost use Rattle.std.specs.Prelude.{◌≡◌, ◌+◌, ◌<◌, ◌^◌, length};
 ghost use Rattle.bandwidth_file.specs.Files as files;
 ghost use Rattle.bandwidth_file.specs.Relays as relays;
-ghost use Rattle.bandwidth_file.specs.declared.said.Said.TheVariants.{Wrong};
+ghost use Rattle.bandwidth_file.specs.{declared.said.Said.TheVariants.Wrong, Lending.item_seen};
 ghost use Rattle.bandwidth_file.specs.declared.section.Section.TheVariants as Section;
-ghost use Rattle.dir_values.specs.Numbers.{number_of};
-ghost use Rattle.dir_values.specs.Taking.{argument_of};
-ghost use Rattle.bandwidth_file.specs.Lending.{item_seen};
+ghost use Rattle.dir_values.specs.{Numbers.number_of, Taking.argument_of};
 
 use crate::items::Items;
 use crate::refusal::{BandFault, BandReason, at};

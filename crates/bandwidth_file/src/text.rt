@@ -1,6 +1,5 @@
 // The text of a bandwidth file.
-ghost use Rattle.std.specs.Prelude.{◌≡◌, ◌++◌, IfOk, OnOk};
-ghost use Rattle.std.specs.List.{flat_map};
+ghost use Rattle.std.specs.{Prelude.{◌≡◌, ◌++◌, IfOk, OnOk}, List.flat_map};
 ghost use Rattle.bandwidth_file.specs.Texts.{header_text, text_of};
 
 use crate::file::{BandFile, Header};

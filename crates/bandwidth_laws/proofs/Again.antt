@@ -1,37 +1,24 @@
 -- A bandwidth file that was written is read again.
-use Rattle.std.proofs.Common.{◌≡◌, ℕ, Bool, true, false, List, [], ◌∷◌, ◌++◌, length, Some, None}
-use Rattle.std.proofs.Common.{refl, sym, ap, ◌∙◌, subst, arith, append_assoc, append-nil, if◌then◌else◌}
-use Rattle.std.specs.Prelude.{◌<◌, ◌^◌, ◌==◌, ◌&&◌, not, map, codes, decimal, is_none, slice_get}
-use Rattle.std.specs.List.{filter, flat_map, list_all}
-use Rattle.std.specs.Option.{option_or}
-use Rattle.std.proofs.lemmas.Bool.{and_parts, false≢true, not-true}
-use Rattle.std.proofs.lemmas.Fmt.{length-decimal-le}
-use Rattle.std.proofs.lemmas.List.Elements.{All-weaker}
-use Rattle.item_terms.specs.Lines.{Line, lines}
-use Rattle.item_terms.specs.Words.{is_blank, is_blank_line}
+use Rattle.std.proofs.Common.{◌≡◌, ℕ, Bool, true, false, List, [], ◌∷◌, ◌++◌, length, Some, None, refl, sym, ap, ◌∙◌}
+use Rattle.std.proofs.{Common.{subst, arith, append_assoc, append-nil, if◌then◌else◌}, lemmas.Bool.and_parts}
+use Rattle.std.proofs.lemmas.{Bool.{false≢true, not-true}, Fmt.length-decimal-le, List.Elements.All-weaker}
+use Rattle.std.specs.{Prelude.{◌<◌, ◌^◌, ◌==◌, ◌&&◌, not, map, codes, decimal, is_none, slice_get}, List.filter}
+use Rattle.std.specs.{List.{flat_map, list_all}, Option.option_or}
+use Rattle.item_terms.specs.{Lines.{Line, lines}, Words.{is_blank, is_blank_line}}
 use Rattle.dir_bytes.proofs.ReadAgain.{number-decimal}
 use Rattle.dir_values.specs.declared.digest.Fingerprint.{Fingerprint}
 use Rattle.dirdoc_grammar.specs.Writers.{is_argument, is_argument_byte}
-use Rattle.frame_laws.proofs.WordTexts.{all_three}
-use Rattle.frame_laws.proofs.Words.{word_of_number}
-use Rattle.bandwidth_file.specs.declared.file.BandFile.{BandFile}
-use Rattle.bandwidth_file.specs.declared.file.Header.{Header}
-use Rattle.bandwidth_file.specs.declared.refusal.BandFault.{BandFault}
+use Rattle.frame_laws.proofs.{WordTexts.all_three, Words.word_of_number}
+use Rattle.bandwidth_file.specs.declared.{file.{BandFile.BandFile, Header.Header}, refusal.BandFault.BandFault}
+use Rattle.bandwidth_file.specs.{declared.said.Row.Row, Lines.{at, place_of}, Files.{end_fault, is_filled, time_said}}
+use Rattle.bandwidth_file.specs.{Relays.last_bandwidth, Texts.{header_text, relay_text, text_of}}
 use Rattle.bandwidth_file.specs.declared.refusal.BandReason.TheVariants as reason
-use Rattle.bandwidth_file.specs.declared.said.Row.{Row}
 use Rattle.bandwidth_file.specs.declared.said.Said.TheVariants as said
 use Rattle.bandwidth_file.specs.declared.section.Section.TheVariants as section
-use Rattle.bandwidth_file.specs.Lines.{at, place_of}
-use Rattle.bandwidth_file.specs.Files.{end_fault, is_filled, time_said}
-use Rattle.bandwidth_file.specs.Relays.{last_bandwidth}
-use Rattle.bandwidth_file.specs.Texts.{header_text, relay_text, text_of}
 use Rattle.bandwidth_laws.specs.Again.{FilesAreReadAgain, IsInRange, IsRelayInRange, StandsInHeader, is_line_byte}
-use Rattle.bandwidth_laws.specs.Again.{line_text}
-use Rattle.bandwidth_laws.proofs.HeaderLines.{header_line_is, headers_say}
-use Rattle.bandwidth_laws.proofs.LastRows.{last_is}
+use Rattle.bandwidth_laws.{specs.Again.line_text, proofs.{HeaderLines.{header_line_is, headers_say}, LastRows.last_is}}
 use Rattle.bandwidth_laws.proofs.RelayLines.{line_bytes, line_of, relay_bytes, relay_line_is, relays_say, row_of}
-use Rattle.bandwidth_laws.proofs.Saying.{Says, says_one, whole}
-use Rattle.bandwidth_laws.proofs.WrittenLines.{line_each, one_line}
+use Rattle.bandwidth_laws.proofs.{Saying.{Says, says_one, whole}, WrittenLines.{line_each, one_line}}
 
 -- ---- the lines of the text
 

@@ -1,23 +1,17 @@
 -- Header lines that were written.
-use Rattle.std.proofs.Common.{◌≡◌, ℕ, Bool, true, false, List, [], ◌∷◌, ◌++◌, refl, sym, ap, ap₂, ◌∙◌}
-use Rattle.std.proofs.Common.{append_assoc, append-nil, subst, if◌then◌else◌}
-use Rattle.std.specs.Prelude.{map, All, ◌==◌, ◌&&◌, ◌||◌}
+use Rattle.std.proofs.Common.{◌≡◌, ℕ, Bool, true, false, List, [], ◌∷◌, ◌++◌, refl, sym, ap, ap₂, ◌∙◌, append_assoc}
+use Rattle.std.proofs.{Common.{append-nil, subst, if◌then◌else◌}, lemmas.{Bool.false≢true, List.Elements.All-cons}}
+use Rattle.std.{proofs.lemmas.List.Elements.{All-head, All-nil, All-tail}, specs.Prelude.{map, All, ◌==◌, ◌&&◌, ◌||◌}}
 use Rattle.std.specs.List.{list_any}
-use Rattle.std.proofs.lemmas.Bool.{false≢true}
-use Rattle.std.proofs.lemmas.List.Elements.{All-cons, All-head, All-nil, All-tail}
-use Rattle.item_terms.specs.Lines.{Line}
-use Rattle.item_terms.specs.Words.{is_blank, is_blank_line}
+use Rattle.item_terms.specs.{Lines.Line, Words.{is_blank, is_blank_line}}
 use Rattle.value_laws.proofs.Marks.{behind_again, front_again, mark_is_there}
-use Rattle.bandwidth_file.specs.declared.file.Header.{Header}
+use Rattle.bandwidth_file.specs.{declared.file.Header.Header, Lines.{at, place_of}, Relays.relay_line}
+use Rattle.bandwidth_file.specs.Files.{filled_line, header_of, header_said, is_separator, names_relay}
+use Rattle.bandwidth_file.specs.Texts.{header_text}
 use Rattle.bandwidth_file.specs.declared.refusal.BandReason.TheVariants as reason
 use Rattle.bandwidth_file.specs.declared.said.Said.TheVariants as said
 use Rattle.bandwidth_file.specs.declared.section.Section.TheVariants as section
-use Rattle.bandwidth_file.specs.Lines.{at, place_of}
-use Rattle.bandwidth_file.specs.Relays.{relay_line}
-use Rattle.bandwidth_file.specs.Files.{filled_line, header_of, header_said, is_separator, names_relay}
-use Rattle.bandwidth_file.specs.Texts.{header_text}
-use Rattle.bandwidth_laws.specs.Again.{StandsInHeader, line_text}
-use Rattle.bandwidth_laws.proofs.Saying.{Says, says_one, whole}
+use Rattle.bandwidth_laws.{specs.Again.{StandsInHeader, line_text}, proofs.Saying.{Says, says_one, whole}}
 
 -- neither test passes
 pub neither : (a b : Bool) → (a || b) ≡ false → (a ≡ false) × (b ≡ false)

@@ -1,22 +1,16 @@
 -- Keys and values are headers.
-use Rattle.std.proofs.Common.{◌≡◌, ℕ, ◌+◌, Bool, true, false, List, [], ◌∷◌, ◌++◌, length, take, drop}
-use Rattle.std.proofs.Common.{Option, Some, None}
-use Rattle.std.proofs.Common.{refl, sym, ap, ap₂, ◌∙◌, arith, if◌then◌else◌}
-use Rattle.std.specs.Prelude.{◌<◌, ◌==◌, ◌&&◌, ◌||◌, codes, is_some, nat_eq}
-use Rattle.std.specs.List.{list_all, list_any}
-use Rattle.std.specs.Option.{option_map}
-use Rattle.std.specs.Str.{bytes_eq}
-use Rattle.std.proofs.lemmas.Bool.{and_parts, eq-eqb, eqb-true, false≢true}
+use Rattle.std.proofs.Common.{◌≡◌, ℕ, ◌+◌, Bool, true, false, List, [], ◌∷◌, ◌++◌, length, take, drop, Option, Some}
+use Rattle.std.proofs.{Common.{None, refl, sym, ap, ap₂, ◌∙◌, arith, if◌then◌else◌}, lemmas.Bool.{and_parts, eq-eqb}}
+use Rattle.std.{proofs.lemmas.Bool.{eqb-true, false≢true}, specs.Prelude.{◌<◌, ◌==◌, ◌&&◌, ◌||◌, codes, is_some}}
+use Rattle.std.specs.{Prelude.nat_eq, List.{list_all, list_any}, Option.option_map, Str.bytes_eq}
 use lib.Pointwise.{pointwise}
 use Rattle.item_terms.specs.Words.{strip}
 use Rattle.dir_values.specs.Arguments.{Argument}
 use Rattle.dirdoc_grammar.specs.Writers.{is_argument, is_argument_byte}
 use Rattle.frame_laws.proofs.Words.{arguments_of_word}
-use Rattle.bandwidth_file.specs.declared.file.Header.{Header}
-use Rattle.bandwidth_file.specs.Lines.{last_of, node_id}
-use Rattle.bandwidth_file.specs.Files.{is_separator, names_relay}
-use Rattle.bandwidth_laws.specs.Again.{IsKeyAndValue, KeysAndValuesStand, line_text}
-use Rattle.bandwidth_laws.proofs.HeaderLines.{neither}
+use Rattle.bandwidth_file.specs.{declared.file.Header.Header, Lines.{last_of, node_id}, Files.is_separator}
+use Rattle.bandwidth_file.specs.Files.{names_relay}
+use Rattle.bandwidth_laws.{specs.Again.{IsKeyAndValue, KeysAndValuesStand, line_text}, proofs.HeaderLines.neither}
 use Rattle.bandwidth_laws.proofs.RelayLines.{line_bytes}
 
 -- a `=`

@@ -1,25 +1,13 @@
 -- Of identities that ascend each has one row.
 use Rattle.std.proofs.Common.{◌≡◌, ℕ, Bool, true, false, cond, List, [], ◌∷◌, Option, Some, None, refl, sym, ap, ◌∙◌}
-use Rattle.std.proofs.Common.{reverse, subst, if◌then◌else◌}
-use Rattle.std.specs.Prelude.{map}
-use Rattle.std.specs.List.{find}
-use Rattle.std.specs.Map.{keys_of}
-use Rattle.std.specs.Option.{option_map, option_or}
-use Rattle.std.specs.Ordering.{is_eq}
-use Rattle.std.specs.declared.cmp.Ordering.TheVariants.{Less}
-use Rattle.std.specs.Str.{bytes_eq}
-use Rattle.std.proofs.lemmas.List.{reverse-append}
-use Rattle.std.proofs.lemmas.List.Elements.{All-head, All-tail}
-use Rattle.std.proofs.lemmas.List.Folds.{find-append}
-use Rattle.std.proofs.lemmas.Map.Keys.{sorted_tail}
-use Rattle.std.proofs.lemmas.Map.Views.{All-after_first}
-use Rattle.std.proofs.lemmas.Slice.Eq.{bytes_eq-Decides}
-use Rattle.std.specs.Prelude.{All}
-use Rattle.dir_values.proofs.WordSets.{ties_as_one}
-use Rattle.dir_values.specs.Digests.{same_identity}
+use Rattle.std.proofs.{Common.{reverse, subst, if◌then◌else◌}, lemmas.List.{reverse-append, Elements.All-head}}
+use Rattle.std.proofs.lemmas.{List.{Elements.All-tail, Folds.find-append}, Map.Keys.sorted_tail}
+use Rattle.std.{proofs.lemmas.{Map.Views.All-after_first, Slice.Eq.bytes_eq-Decides}, specs.Prelude.{map, All}}
+use Rattle.std.specs.{List.find, Map.keys_of, Option.{option_map, option_or}, Ordering.is_eq}
+use Rattle.std.specs.{declared.cmp.Ordering.TheVariants.Less, Str.bytes_eq}
+use Rattle.dir_values.{proofs.WordSets.ties_as_one, specs.Digests.same_identity}
 use Rattle.dir_values.specs.declared.digest.Fingerprint.{Fingerprint}
-use Rattle.bandwidth_file.specs.declared.said.Row.{Row}
-use Rattle.bandwidth_file.specs.Relays.{Ascend, bandwidth_in, identity_order, last_bandwidth}
+use Rattle.bandwidth_file.specs.{declared.said.Row.Row, Relays.{Ascend, bandwidth_in, identity_order, last_bandwidth}}
 use Rattle.bandwidth_laws.proofs.RelayLines.{row_of}
 
 -- the bandwidth of a row, if there is one

@@ -1,21 +1,13 @@
 -- Bytes are one bandwidth file at most.
 use Rattle.std.proofs.Common.{◌≡◌, ◌∙◌, ℕ, Bool, true, false, cond, List, [], ◌∷◌, Some, None, refl, sym, ap, subst}
-use Rattle.std.specs.Prelude.{All}
-use Rattle.std.specs.Map.{keys_of}
-use Rattle.std.specs.Ordering.{is_eq, ordering_reverse}
-use Rattle.std.specs.declared.cmp.Ordering.{Ordering}
-use Rattle.std.specs.declared.cmp.Ordering.TheVariants.{Less, Equal, Greater}
-use Rattle.std.proofs.lemmas.Cmp.{nat_list_cmp_total}
-use Rattle.std.proofs.lemmas.List.Elements.{All-cons, All-weaker}
-use Rattle.std.proofs.lemmas.Map.Keys.{sorted_tail}
-use Rattle.std.proofs.lemmas.Map.Views.{All-after_first}
-use Rattle.std.proofs.lemmas.Slice.Eq.{bytes_eq-Decides}
-use Rattle.dir_values.proofs.WordSets.{ties_as_one}
-use Rattle.dir_values.specs.Digests.{same_identity}
+use Rattle.std.proofs.lemmas.{Cmp.nat_list_cmp_total, List.Elements.{All-cons, All-weaker}, Map.Keys.sorted_tail}
+use Rattle.std.{proofs.lemmas.{Map.Views.All-after_first, Slice.Eq.bytes_eq-Decides}, specs.{Prelude.All, Map.keys_of}}
+use Rattle.std.specs.{Ordering.{is_eq, ordering_reverse}, declared.cmp.Ordering.{Ordering, TheVariants.{Less, Equal}}}
+use Rattle.std.specs.declared.cmp.Ordering.TheVariants.{Greater}
+use Rattle.dir_values.{proofs.WordSets.ties_as_one, specs.Digests.same_identity}
 use Rattle.dir_values.specs.declared.digest.Fingerprint.{Fingerprint}
 use Rattle.bandwidth_file.specs.Relays.{Ascend, bandwidth_in, identity_order}
-use Rattle.bandwidth_laws.specs.Again.{BytesAreOneFile}
-use Rattle.bandwidth_laws.proofs.LastRows.{none_later}
+use Rattle.bandwidth_laws.{specs.Again.BytesAreOneFile, proofs.LastRows.none_later}
 
 -- identities with bandwidths
 abbrev Relays : Type 0

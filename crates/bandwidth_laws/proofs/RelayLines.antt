@@ -1,37 +1,24 @@
 -- Relay lines that were written.
-use Rattle.std.proofs.Common.{◌≡◌, ℕ, ◌+◌, Bool, true, false, List, [], ◌∷◌, ◌++◌, length, Option, Some, None}
-use Rattle.std.proofs.Common.{refl, sym, ap, ap₂, ◌∙◌, subst, arith, append_assoc, append-nil, length-append}
-use Rattle.std.proofs.Common.{if◌then◌else◌}
-use Rattle.std.specs.Prelude.{◌<◌, ◌≤◌, ◌==◌, ◌&&◌, not, map, All, codes, decimal, is_none}
-use Rattle.std.specs.List.{cons_option, list_all}
-use Rattle.std.proofs.lemmas.Bool.{and_from, ne_eqb}
-use Rattle.std.proofs.lemmas.Fmt.{length-decimal-le}
-use Rattle.std.proofs.lemmas.List.Elements.{All-head, All-tail}
-use Rattle.std.proofs.lemmas.List.Folds.{list_all-append}
-use Rattle.item_terms.specs.Lines.{Line}
-use Rattle.item_terms.specs.Words.{is_blank}
-use Rattle.dir_bytes.proofs.ReadAgain.{number-decimal}
-use Rattle.dir_bytes.proofs.Spelling.{length-hex_text}
-use Rattle.dir_bytes.specs.FieldTexts.{hex_text}
-use Rattle.dir_values.specs.Arguments.{Argument, arguments_at}
-use Rattle.dir_values.specs.Digests.{fingerprint_text}
+use Rattle.std.proofs.Common.{◌≡◌, ℕ, ◌+◌, Bool, true, false, List, [], ◌∷◌, ◌++◌, length, Option, Some, None, refl}
+use Rattle.std.proofs.Common.{sym, ap, ap₂, ◌∙◌, subst, arith, append_assoc, append-nil, length-append, if◌then◌else◌}
+use Rattle.std.proofs.lemmas.{Bool.{and_from, ne_eqb}, Fmt.length-decimal-le, List.Elements.{All-head, All-tail}}
+use Rattle.std.{proofs.lemmas.List.Folds.list_all-append, specs.Prelude.{◌<◌, ◌≤◌, ◌==◌, ◌&&◌, not, map, All, codes}}
+use Rattle.std.specs.{Prelude.{decimal, is_none}, List.{cons_option, list_all}}
+use Rattle.item_terms.specs.{Lines.Line, Words.is_blank}
+use Rattle.dir_bytes.{proofs.{ReadAgain.number-decimal, Spelling.length-hex_text}, specs.FieldTexts.hex_text}
+use Rattle.dir_values.specs.{Arguments.{Argument, arguments_at}, Digests.fingerprint_text}
 use Rattle.dir_values.specs.declared.digest.Fingerprint.{Fingerprint}
 use Rattle.dirdoc_grammar.specs.Writers.{is_argument, is_argument_byte}
-use Rattle.frame_laws.proofs.WordTexts.{all_three, both_dark, bytes_of, weaker}
-use Rattle.frame_laws.proofs.Words.{arguments_of_more, arguments_of_word, word_of_identity, word_of_number}
-use Rattle.frame_laws.proofs.WrittenItems.{identity_again}
-use Rattle.bandwidth_file.specs.declared.file.Header.{Header}
+use Rattle.frame_laws.proofs.{WordTexts.{all_three, both_dark, bytes_of, weaker}, Words.arguments_of_more}
+use Rattle.frame_laws.proofs.{Words.{arguments_of_word, word_of_identity, word_of_number}, WrittenItems.identity_again}
+use Rattle.bandwidth_file.specs.{declared.{file.Header.Header, said.Row.Row}, Gathered.gathered_behind, Lines.{at, bw}}
+use Rattle.bandwidth_file.specs.{Lines.{last_of, max_line, node_id, place_of, vote}, Relays.{last_bandwidth, new_row}}
+use Rattle.bandwidth_file.specs.{Relays.{number_of_identities, relay_line, relay_said, row_said}, Files.many_fault}
+use Rattle.bandwidth_file.specs.{Files.max_relays, Texts.relay_text}
 use Rattle.bandwidth_file.specs.declared.refusal.BandReason.TheVariants as reason
-use Rattle.bandwidth_file.specs.declared.said.Row.{Row}
 use Rattle.bandwidth_file.specs.declared.said.Said.TheVariants as said
 use Rattle.bandwidth_file.specs.declared.section.Section.TheVariants as section
-use Rattle.bandwidth_file.specs.Gathered.{gathered_behind}
-use Rattle.bandwidth_file.specs.Lines.{at, bw, last_of, max_line, node_id, place_of, vote}
-use Rattle.bandwidth_file.specs.Relays.{last_bandwidth, new_row, number_of_identities, relay_line, relay_said, row_said}
-use Rattle.bandwidth_file.specs.Files.{many_fault, max_relays}
-use Rattle.bandwidth_file.specs.Texts.{relay_text}
-use Rattle.bandwidth_laws.specs.Again.{IsRelayInRange, is_line_byte}
-use Rattle.bandwidth_laws.proofs.Saying.{Says, says_one, whole}
+use Rattle.bandwidth_laws.{specs.Again.{IsRelayInRange, is_line_byte}, proofs.Saying.{Says, says_one, whole}}
 
 -- a relay's row
 abbrev pub row_of : Fingerprint × ℕ → Row

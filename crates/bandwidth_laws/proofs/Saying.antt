@@ -1,26 +1,16 @@
 -- What some lines say together, and one more line.
 use Rattle.std.proofs.Common.{◌≡◌, ℕ, ◌+◌, Bool, true, false, List, [], ◌∷◌, ◌++◌, length, Option, Some, None}
-use Rattle.std.proofs.Common.{option_to_list, refl, ap, ap₂, ◌∙◌, arith, if◌then◌else◌}
-use Rattle.std.specs.Prelude.{◌<◌, nat_lt, not, ◌==◌}
-use Rattle.std.specs.List.{list_all, prefix_len}
+use Rattle.std.proofs.{Common.{option_to_list, refl, ap, ap₂, ◌∙◌, arith, if◌then◌else◌}, lemmas.Bool.and_parts}
+use Rattle.std.{proofs.lemmas.Bool.le-ltb, specs.{Prelude.{◌<◌, nat_lt, not, ◌==◌}, List.{list_all, prefix_len}}}
 use Rattle.std.specs.Option.{option_map, option_or}
-use Rattle.std.proofs.lemmas.Bool.{and_parts, le-ltb}
-use Rattle.item_terms.specs.Lines.{Line}
-use Rattle.item_terms.specs.Words.{is_blank_line, nul_in}
-use Rattle.bandwidth_file.specs.declared.file.Header.{Header}
-use Rattle.bandwidth_file.specs.declared.refusal.BandFault.{BandFault}
-use Rattle.bandwidth_file.specs.declared.refusal.BandReason.TheVariants.{LineTooLong, Nul}
-use Rattle.bandwidth_file.specs.declared.said.Row.{Row}
-use Rattle.bandwidth_file.specs.declared.said.Said.{Said}
+use Rattle.item_terms.specs.{Lines.Line, Words.{is_blank_line, nul_in}}
+use Rattle.bandwidth_file.specs.declared.{file.Header.Header, refusal.BandFault.BandFault}
+use Rattle.bandwidth_file.specs.declared.{refusal.BandReason.TheVariants.{LineTooLong, Nul}, said.{Row.Row, Said.Said}}
+use Rattle.bandwidth_file.specs.{declared.section.Section.Section, Lines.{at, line_fault, max_line, place_of, too_long}}
+use Rattle.bandwidth_file.specs.Files.{fault_in, fault_of, faults_of, filled_line, header_in, headers_of, row_in}
+use Rattle.bandwidth_file.specs.{Files.{rows_of, said_by, said_if, section_of, time_in, times_of}, Lending.next_section}
+use Rattle.bandwidth_file.proofs.{Gathering.gathered_one, Sections.section_grows}
 use Rattle.bandwidth_file.specs.declared.said.Said.TheVariants as said
-use Rattle.bandwidth_file.specs.declared.section.Section.{Section}
-use Rattle.bandwidth_file.specs.Lines.{at, line_fault, max_line, place_of, too_long}
-use Rattle.bandwidth_file.specs.Files.{fault_in, fault_of, faults_of, filled_line, header_in, headers_of}
-use Rattle.bandwidth_file.specs.Files.{row_in, rows_of}
-use Rattle.bandwidth_file.specs.Files.{said_by, said_if, section_of, time_in, times_of}
-use Rattle.bandwidth_file.specs.Lending.{next_section}
-use Rattle.bandwidth_file.proofs.Gathering.{gathered_one}
-use Rattle.bandwidth_file.proofs.Sections.{section_grows}
 use Rattle.bandwidth_laws.specs.Again.{is_line_byte}
 
 -- a line with its NL

@@ -1,12 +1,9 @@
 -- The lines of a written text.
 use Rattle.std.proofs.Common.{◌≡◌, ℕ, Bool, true, false, List, [], ◌∷◌, ◌++◌, refl, ap, ◌∙◌, append_assoc}
-use Rattle.std.specs.Prelude.{map, All, not, ◌==◌, if◌then◌else◌}
-use Rattle.std.specs.List.{list_all, flat_map}
-use Rattle.std.proofs.lemmas.Bool.{and_parts, not-true}
-use Rattle.std.proofs.lemmas.List.Elements.{All-head, All-tail}
+use Rattle.std.{proofs.lemmas.{Bool.{and_parts, not-true}, List.Elements.{All-head, All-tail}}, specs.Prelude.map}
+use Rattle.std.specs.{Prelude.{All, not, ◌==◌, if◌then◌else◌}, List.{list_all, flat_map}}
 use Rattle.item_terms.specs.Lines.{Line, lines, onto}
-use Rattle.bandwidth_laws.specs.Again.{is_line_byte}
-use Rattle.bandwidth_laws.proofs.Saying.{whole}
+use Rattle.bandwidth_laws.{specs.Again.is_line_byte, proofs.Saying.whole}
 
 -- a line, and then others
 pub one_line : (text rest : List ℕ) → list_all is_line_byte text ≡ true

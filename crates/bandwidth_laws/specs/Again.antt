@@ -1,17 +1,12 @@
 -- A bandwidth file that was written is read again ("Bandwidth File Format").
-use Rattle.std.specs.Prelude.{◌≡◌, ℕ, ◌+◌, ◌<◌, ◌≤◌, ◌^◌, ◌==◌, ◌&&◌, not, Bool, true, false, List, ◌∷◌, ◌++◌}
-use Rattle.std.specs.Prelude.{length, All, codes}
-use Rattle.std.specs.List.{list_all, list_any}
+use Rattle.std.specs.Prelude.{◌≡◌, ℕ, ◌+◌, ◌<◌, ◌≤◌, ◌^◌, ◌==◌, ◌&&◌, not, Bool, true, false, List, ◌∷◌, ◌++◌, length}
+use Rattle.std.specs.{Prelude.{All, codes}, List.{list_all, list_any}}
 use Rattle.item_terms.specs.Bytes.{line_feed, nul}
 use Rattle.dirdoc_grammar.specs.Writers.{is_argument_byte}
 use Rattle.frame_values.specs.Ranges.{AreTwenty}
 use Rattle.dir_values.specs.declared.digest.Fingerprint.{Fingerprint}
-use Rattle.bandwidth_file.specs.declared.file.BandFile.{BandFile}
-use Rattle.bandwidth_file.specs.declared.file.Header.{Header}
-use Rattle.bandwidth_file.specs.Lines.{max_line}
-use Rattle.bandwidth_file.specs.Files.{IsBandFile, ends_header, max_relays}
-use Rattle.bandwidth_file.specs.Relays.{Ascend}
-use Rattle.bandwidth_file.specs.Texts.{text_of}
+use Rattle.bandwidth_file.specs.{declared.file.{BandFile.BandFile, Header.Header}, Lines.max_line, Files.IsBandFile}
+use Rattle.bandwidth_file.specs.{Files.{ends_header, max_relays}, Relays.Ascend, Texts.text_of}
 
 -- the `=` behind a key
 abbrev pub equals : ℕ

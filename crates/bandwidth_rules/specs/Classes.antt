@@ -1,12 +1,9 @@
 -- The bandwidth of the classes of relays (dir-spec, "Computing Bandwidth Weights").
-use Rattle.std.specs.Prelude.{ℕ, ◌+◌, Bool, true, false, not, ◌&&◌, List, codes, filter, sum_by}
-use Rattle.std.specs.Option.{option_map_or}
+use Rattle.std.specs.{Prelude.{ℕ, ◌+◌, Bool, true, false, not, ◌&&◌, List, codes, filter, sum_by}, Option.option_map_or}
 use Rattle.bw_weights.specs.declared.sums.Sums.{Sums}
 use Rattle.dir_values.specs.FlagSets.{has_flag}
-use Rattle.consensus_terms.specs.declared.router.Bandwidth.{Bandwidth}
-use Rattle.consensus_terms.specs.declared.router.Routerline.{Routerline}
-use Rattle.bandwidth_rules.specs.declared.class.Class.{Class}
-use Rattle.bandwidth_rules.specs.declared.class.Class.TheVariants.{Guard, Middle, Exit, Both}
+use Rattle.consensus_terms.specs.declared.router.{Bandwidth.Bandwidth, Routerline.Routerline}
+use Rattle.bandwidth_rules.specs.declared.class.Class.{Class, TheVariants.{Guard, Middle, Exit, Both}}
 
 -- whether a relay with these flags is a guard
 abbrev pub is_guard : List (List ℕ) → Bool

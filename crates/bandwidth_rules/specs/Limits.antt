@@ -1,8 +1,7 @@
 -- The params by which a consensus is computed (dir-spec, "Computing a consensus from a set of votes" and "Computing Bandwidth
 -- Weights").
 use Rattle.std.specs.Prelude.{ℕ, ℤ, pos, negsuc, max, List, codes, unwrap_or}
-use Rattle.list_values.specs.declared.named.Named.{Named}
-use Rattle.list_values.specs.Maps.{value_at}
+use Rattle.list_values.specs.{declared.named.Named.Named, Maps.value_at}
 
 -- a number, and 1 in place of a lesser one
 abbrev pub at_least_one : ℤ → ℕ

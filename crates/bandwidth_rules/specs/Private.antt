@@ -1,8 +1,7 @@
 -- What the private functions of this crate say.
 use Rattle.std.specs.Prelude.{ℕ, ◌+◌, ◌*◌, ◌≤◌, Bool, if◌then◌else◌}
 use Rattle.bw_weights.specs.declared.sums.Sums.{Sums}
-use Rattle.bandwidth_rules.specs.declared.class.Class.{Class}
-use Rattle.bandwidth_rules.specs.declared.class.Class.TheVariants.{Guard, Middle, Exit, Both}
+use Rattle.bandwidth_rules.specs.declared.class.Class.{Class, TheVariants.{Guard, Middle, Exit, Both}}
 use Rattle.bandwidth_rules.specs.Classes.{is_class}
 
 -- a sum, with this bandwidth if it is its own

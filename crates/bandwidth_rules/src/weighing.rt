@@ -1,7 +1,6 @@
 // The weights that follow from relays.
 ghost use Rattle.std.specs.Prelude.{◌≡◌, ◌<◌, ◌^◌, length};
-ghost use Rattle.bw_weights.specs.Balance.{GivesOutEachClass};
-ghost use Rattle.bw_weights.specs.Weights.{AreFractions};
+ghost use Rattle.bw_weights.specs.{Balance.GivesOutEachClass, Weights.AreFractions};
 ghost use Rattle.bandwidth_rules.specs.Weights as rules;
 
 use crate::class_sums::sums_of;

@@ -1,13 +1,11 @@
 -- Blank lines behind a document, from one line to the next.
-use Rattle.std.proofs.Common.{◌≡◌, ℕ, ◌+◌, ◌<◌, ◌≤◌, ◌-◌, ◌&&◌, Bool, ltb, true, false, List, [], ◌∷◌, length, take, drop, Option, Some, None, refl, ap, ◌∙◌, arith, if◌then◌else◌}
-use Rattle.std.proofs.Math.ListN.{drop_of_length-le}
-use Rattle.std.proofs.lemmas.Bool.{lt-ltb, le-ltb}
-use Rattle.std.proofs.lemmas.List.{length-drop, length-take, drop-drop}
+use Rattle.std.proofs.Common.{◌≡◌, ℕ, ◌+◌, ◌<◌, ◌≤◌, ◌-◌, ◌&&◌, Bool, ltb, true, false, List, [], ◌∷◌, length, take}
+use Rattle.std.proofs.Common.{drop, Option, Some, None, refl, ap, ◌∙◌, arith, if◌then◌else◌}
+use Rattle.std.proofs.{Math.ListN.drop_of_length-le, lemmas.{Bool.{lt-ltb, le-ltb}, List.{length-drop, length-take}}}
+use Rattle.std.proofs.lemmas.List.{drop-drop}
 use Rattle.memchr.specs.Find.{IsFirstByte, is_byte}
-use Rattle.item_terms.specs.Lines.{Line, lines, size}
-use Rattle.item_terms.specs.Words.{is_blank_line}
-use Rattle.dirdoc_grammar.specs.Reading.{first_line, first_line_len}
-use Rattle.dirdoc_grammar.proofs.FirstByte.{before_found, before_none}
+use Rattle.item_terms.specs.{Lines.{Line, lines, size}, Words.is_blank_line}
+use Rattle.dirdoc_grammar.{specs.Reading.{first_line, first_line_len}, proofs.FirstByte.{before_found, before_none}}
 use Rattle.dirdoc_grammar.proofs.FirstLine.{lines_first, whole_rest}
 use Rattle.blank_lines.specs.Blanks.{after_blanks, blank_size, first_other, is_blank}
 

@@ -1,7 +1,6 @@
 -- Blank lines behind a document.
 use Rattle.std.specs.Prelude.{ℕ, ◌+◌, ◌&&◌, Bool, List, [], ◌∷◌, drop, Option, Some, None, if◌then◌else◌}
-use Rattle.item_terms.specs.Lines.{Line, lines, size}
-use Rattle.item_terms.specs.Words.{is_blank_line}
+use Rattle.item_terms.specs.{Lines.{Line, lines, size}, Words.is_blank_line}
 use Rattle.dirdoc_grammar.specs.Reading.{first_line}
 
 -- a line that has blanks alone, and its NL

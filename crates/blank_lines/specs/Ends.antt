@@ -1,7 +1,6 @@
 -- Where an input ends: only blank lines follow, none of which is too long for a line.
 use Rattle.std.specs.Prelude.{ℕ, Bool, true, false, List, [], Option, None}
-use Rattle.item_terms.specs.Items.{Item, items_from, no_limit}
-use Rattle.item_terms.specs.declared.fault.DocFault.{DocFault}
+use Rattle.item_terms.specs.{Items.{Item, items_from, no_limit}, declared.fault.DocFault.DocFault}
 
 -- whether there is nothing
 abbrev pub is_nothing : List Item → Option DocFault → Bool

@@ -1,18 +1,13 @@
 -- Each case gives out each class.
-use Rattle.std.proofs.Common.{◌≡◌, refl, ℕ, ◌+◌, ◌-◌, ◌*◌, ◌/◌, ◌<◌, ◌≤◌, ◌⊎◌, inl, inr, arith}
-use Rattle.std.proofs.Common.{Bool, true, false, ◌&&◌, ℤ, pos, negsuc, ◌-ℤ◌}
-use Rattle.std.proofs.lemmas.Bool.{cases_lt, and_parts}
-use Rattle.std.proofs.lemmas.Int.{ints}
+use Rattle.std.proofs.Common.{◌≡◌, refl, ℕ, ◌+◌, ◌-◌, ◌*◌, ◌/◌, ◌<◌, ◌≤◌, ◌⊎◌, inl, inr, arith, Bool, true, false, ◌&&◌}
+use Rattle.std.proofs.{Common.{ℤ, pos, negsuc, ◌-ℤ◌}, lemmas.{Bool.{cases_lt, and_parts}, Int.ints}}
 use Rattle.std.specs.Prelude.{int_lt, if◌then◌else◌}
-use Rattle.bw_weights.specs.Balance.{GivesOutEachClass, IsWholeBut}
+use Rattle.bw_weights.specs.{Balance.{GivesOutEachClass, IsWholeBut}, Fractions.half, Ranges.is_within}
+use Rattle.bw_weights.specs.Ranges.{guard_is_within, middle_is_within, exit_is_within, are_within, nearest_within}
+use Rattle.bw_weights.{specs.{Weights.weights_within, declared.shares.Shares.Shares}, proofs.Rests.rest_and_weight}
+use Rattle.bw_weights.proofs.{Rests.{rest_and_two, half_of_rest}, Truncations.{below_whole, two_below, level}}
+use Rattle.bw_weights.proofs.Truncations.{level_or_none, none_of_none, exits_split}
 use Rattle.bw_weights.specs.Cases as cases
-use Rattle.bw_weights.specs.Fractions.{half}
-use Rattle.bw_weights.specs.Ranges.{is_within, guard_is_within, middle_is_within, exit_is_within}
-use Rattle.bw_weights.specs.Ranges.{are_within, nearest_within}
-use Rattle.bw_weights.specs.Weights.{weights_within}
-use Rattle.bw_weights.specs.declared.shares.Shares.{Shares}
-use Rattle.bw_weights.proofs.Rests.{rest_and_weight, rest_and_two, half_of_rest}
-use Rattle.bw_weights.proofs.Truncations.{below_whole, two_below, level, level_or_none, none_of_none, exits_split}
 
 -- the weights of a case, brought into range, give out each class
 abbrev pub Balances : ℕ → Shares → Type 0

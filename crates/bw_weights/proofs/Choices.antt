@@ -1,17 +1,12 @@
 -- Whatever case the sums are in, the weights give out each class.
-use Rattle.std.proofs.Common.{◌≡◌, refl, ℕ, ◌+◌, ◌*◌, ◌<◌, ◌≤◌, Bool, true, false, arith}
-use Rattle.std.specs.Prelude.{if◌then◌else◌}
+use Rattle.std.{proofs.Common.{◌≡◌, refl, ℕ, ◌+◌, ◌*◌, ◌<◌, ◌≤◌, Bool, true, false, arith}, specs.Prelude.if◌then◌else◌}
 use borrow.Author.Tests.{ltb-true, ltb-false}
-use Rattle.bw_weights.specs.Balance.{GivesOutEachClass}
-use Rattle.bw_weights.specs.Cases as cases
-use Rattle.bw_weights.specs.Cases.{shares_at}
-use Rattle.bw_weights.specs.Ranges.{are_within}
-use Rattle.bw_weights.specs.Sums.{AreInRange, is_scarce, are_unequal, total_of}
-use Rattle.bw_weights.specs.Weights.{weights_of, comparable, both_scarce, guards_scarce, exits_scarce}
-use Rattle.bw_weights.specs.declared.sums.Sums.{Sums}
-use Rattle.bw_weights.specs.declared.shares.Shares.{Shares}
-use Rattle.bw_weights.proofs.Balances as balances
+use Rattle.bw_weights.specs.{Balance.GivesOutEachClass, Cases.shares_at, Ranges.are_within, Sums.AreInRange}
+use Rattle.bw_weights.specs.{Sums.{is_scarce, are_unequal, total_of}, Weights.{weights_of, comparable, both_scarce}}
+use Rattle.bw_weights.specs.{Weights.{guards_scarce, exits_scarce}, declared.{sums.Sums.Sums, shares.Shares.Shares}}
 use Rattle.bw_weights.proofs.Balances.{Balances}
+use Rattle.bw_weights.specs.Cases as cases
+use Rattle.bw_weights.proofs.Balances as balances
 
 -- what holds of both choices holds of the one that a test makes
 by_test : (P : Shares → Type 0) (b : Bool) (x y : Shares) →

@@ -1,6 +1,5 @@
 -- The numerators of the weights, as a difference of two sums and as they are written.
-use Rattle.std.proofs.Common.{◌≡◌, ℕ, ◌+◌, ◌*◌, pos, ◌+ℤ◌, ◌-ℤ◌, ◌*ℤ◌, arith}
-use Rattle.std.proofs.lemmas.Int.{ints, to_z-of_z}
+use Rattle.std.proofs.{Common.{◌≡◌, ℕ, ◌+◌, ◌*◌, pos, ◌+ℤ◌, ◌-ℤ◌, ◌*ℤ◌, arith}, lemmas.Int.{ints, to_z-of_z}}
 
 -- E+G+M
 pub all_but_both : (g m e : ℕ) → pos (e + g + m) -ℤ pos 0 ≡ pos e +ℤ pos g +ℤ pos m

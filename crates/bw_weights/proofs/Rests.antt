@@ -1,9 +1,7 @@
 -- Weights and what they leave of the scale, brought into range.
 use Rattle.std.proofs.Common.{◌≡◌, ℕ, ◌+◌, ◌-◌, ◌/◌, ◌≤◌, ◌⊎◌, inl, inr, ℤ, pos, negsuc, ◌-ℤ◌, arith}
-use Rattle.std.proofs.lemmas.Bool.{cases_lt}
-use Rattle.std.proofs.lemmas.Int.{ints}
-use Rattle.bw_weights.specs.Fractions.{half}
-use Rattle.bw_weights.specs.Ranges.{nearest_within}
+use Rattle.std.proofs.lemmas.{Bool.cases_lt, Int.ints}
+use Rattle.bw_weights.specs.{Fractions.half, Ranges.nearest_within}
 
 -- a weight and its rest are the scale
 pub rest_and_weight : (s : ℕ) (w : ℤ) → nearest_within s (pos s -ℤ w) + nearest_within s w ≡ s

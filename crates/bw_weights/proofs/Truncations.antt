@@ -1,14 +1,10 @@
 -- Fractions of a scale that are truncated.
-use Rattle.std.proofs.Common.{◌≡◌, refl, sym, ap, ◌∙◌, ℕ, zero, suc, ◌+◌, ◌-◌, ◌*◌, ◌/◌, ◌<◌, ◌≤◌, inl, inr, arith}
-use Rattle.std.proofs.Common.{pos, negsuc, neg_ℤ, ◌+ℤ◌, ◌-ℤ◌, ◌*ℤ◌}
-use Rattle.std.proofs.Math.Nat.{div-le_of_le-mul, mul-div-le, mul-le-mul_left, le_of_mul-le-mul_left}
-use Rattle.std.proofs.Math.Nat.{lt-mul-div-succ, lt_of_mul-lt-mul_left, zero-div, add-mul-div_right}
-use Rattle.std.proofs.lemmas.Bool.{cases_lt}
-use Rattle.std.proofs.lemmas.Int.{ints, clamps}
-use Rattle.std.specs.Prelude.{int_div}
-use Rattle.std.specs.Int.{int_max}
-use Rattle.bw_weights.specs.Balance.{IsWholeBut}
-use Rattle.bw_weights.specs.Fractions.{fraction}
+use Rattle.std.proofs.Common.{◌≡◌, refl, sym, ap, ◌∙◌, ℕ, zero, suc, ◌+◌, ◌-◌, ◌*◌, ◌/◌, ◌<◌, ◌≤◌, inl, inr, arith, pos}
+use Rattle.std.proofs.{Common.{negsuc, neg_ℤ, ◌+ℤ◌, ◌-ℤ◌, ◌*ℤ◌}, Math.Nat.{div-le_of_le-mul, mul-div-le}}
+use Rattle.std.proofs.Math.Nat.{mul-le-mul_left, le_of_mul-le-mul_left, lt-mul-div-succ, lt_of_mul-lt-mul_left}
+use Rattle.std.proofs.{Math.Nat.{zero-div, add-mul-div_right}, lemmas.{Bool.cases_lt, Int.{ints, clamps}}}
+use Rattle.std.specs.{Prelude.int_div, Int.int_max}
+use Rattle.bw_weights.specs.{Balance.IsWholeBut, Fractions.fraction}
 
 -- a fraction of at most one
 pub below_whole : (s n d : ℕ) → n ≤ d → s * n / d ≤ s

@@ -1,10 +1,7 @@
 -- The weights of each case, in units of the scale s, as whole numbers of either sign; G, M, E and D are the bandwidth
 -- of each class (dir-spec, "Computing Bandwidth Weights").
-use Rattle.std.specs.Prelude.{ℕ, ℤ, pos, ◌+ℤ◌, ◌-ℤ◌, ◌*ℤ◌, int_lt, if◌then◌else◌}
-use Rattle.std.specs.Int.{int_max}
-use Rattle.bw_weights.specs.Fractions.{fraction, half, third}
-use Rattle.bw_weights.specs.declared.sums.Sums.{Sums}
-use Rattle.bw_weights.specs.declared.shares.Shares.{Shares}
+use Rattle.std.specs.{Prelude.{ℕ, ℤ, pos, ◌+ℤ◌, ◌-ℤ◌, ◌*ℤ◌, int_lt, if◌then◌else◌}, Int.int_max}
+use Rattle.bw_weights.specs.{Fractions.{fraction, half, third}, declared.{sums.Sums.Sums, shares.Shares.Shares}}
 
 -- neither guards nor exits are scarce:
 -- Wgd = Wed = Wmd = s/3; Wee = s(E+G+M)/(3E); Wme = s - Wee; Wmg = s(2G-E-M)/(3G); Wgg = s - Wmg

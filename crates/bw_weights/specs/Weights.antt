@@ -1,12 +1,8 @@
 -- The weights of a consensus (dir-spec, "Computing Bandwidth Weights").
 use Rattle.std.specs.Prelude.{ℕ, ◌+◌, ◌≤◌, if◌then◌else◌}
-use Rattle.bw_weights.specs.Sums.{is_scarce, are_unequal}
+use Rattle.bw_weights.specs.{Sums.{is_scarce, are_unequal}, Cases.shares_at, Ranges.{are_within, nearest_within}}
+use Rattle.bw_weights.specs.declared.{sums.Sums.Sums, shares.Shares.Shares, position_weights.Weights.Weights}
 use Rattle.bw_weights.specs.Cases as cases
-use Rattle.bw_weights.specs.Cases.{shares_at}
-use Rattle.bw_weights.specs.Ranges.{are_within, nearest_within}
-use Rattle.bw_weights.specs.declared.sums.Sums.{Sums}
-use Rattle.bw_weights.specs.declared.shares.Shares.{Shares}
-use Rattle.bw_weights.specs.declared.position_weights.Weights.{Weights}
 
 -- both scarce and comparable: exits help in the middle, unless one of the weights would then be out of range
 abbrev pub comparable : Sums → ℕ → Shares

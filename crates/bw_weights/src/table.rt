@@ -1,7 +1,6 @@
 // Which case the sums are in, and its weights in range.
 ghost use Rattle.std.specs.Prelude.{◌≡◌, ◌<◌, ◌^◌};
-ghost use Rattle.bw_weights.specs.Balance.{GivesOutEachClass};
-ghost use Rattle.bw_weights.specs.Sums.{AreInRange};
+ghost use Rattle.bw_weights.specs.{Balance.GivesOutEachClass, Sums.AreInRange};
 ghost use Rattle.bw_weights.specs.Weights as table;
 
 use crate::cases::{

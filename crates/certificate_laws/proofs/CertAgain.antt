@@ -1,41 +1,23 @@
 -- A certificate that was written is read again.
 use Rattle.std.proofs.Common.{◌≡◌, ℕ, ◌+◌, true, false, List, [], ◌++◌, length, Result, Ok, refl, ap, subst, ◌∙◌, sym}
-use Rattle.std.proofs.Common.{arith}
-use Rattle.std.specs.Prelude.{◌&&◌, map}
-use Rattle.item_terms.specs.Items.{Contents, contents, nothing}
-use Rattle.item_terms.specs.Words.{begins_dash}
+use Rattle.std.{proofs.Common.arith, specs.Prelude.{◌&&◌, map}}
+use Rattle.item_terms.specs.{Items.{Contents, contents, nothing}, Words.begins_dash}
 use Rattle.grammar_laws.proofs.ItemsAgain.{items_again}
 use Rattle.dirdoc_grammar.specs.Writing.{AreWritable, NewItem, all_written, in_front, is_open, items_text}
-use Rattle.frame_terms.specs.Documents.{Document, document_of, finish}
-use Rattle.frame_terms.specs.Keywords.{same}
-use Rattle.frame_terms.specs.Rows.{row}
-use Rattle.frame_terms.specs.declared.fault.ReadRefusal.{ReadRefusal}
+use Rattle.frame_terms.specs.{Documents.{Document, document_of, finish}, Keywords.same, Rows.row}
+use Rattle.frame_terms.specs.declared.{fault.ReadRefusal.ReadRefusal, row.Count.TheVariants.One}
 use Rattle.frame_terms.specs.declared.keyword.Keyword.TheVariants as the
-use Rattle.frame_terms.specs.declared.row.Count.TheVariants.{One}
 use Rattle.frame_values.specs.declared.values.Value.{Value}
-use Rattle.frame_laws.proofs.Ends.{alone_read}
-use Rattle.frame_laws.proofs.Entries.{item_of}
-use Rattle.frame_laws.proofs.Following.{IsFirst}
-use Rattle.frame_laws.proofs.Places.{after_all}
-use Rattle.frame_laws.proofs.ReadRows.{Stand}
-use Rattle.frame_laws.proofs.Remembered.{notes_nothing}
-use Rattle.frame_laws.proofs.Sections.{entries_in}
-use Rattle.frame_laws.proofs.StandingParts.{between_stands}
-use Rattle.frame_laws.proofs.TableRows.{are_plain}
-use Rattle.frame_laws.proofs.WrittenRows.{is_closed, stand_written}
-use Rattle.authority_certs.specs.Certs.{cert_in}
-use Rattle.authority_certs.specs.Heads.{head_of, head_with, no_head}
-use Rattle.authority_certs.specs.Reading.{max_cert, with_cert}
-use Rattle.authority_certs.specs.Tables.{cert_tables}
-use Rattle.authority_certs.specs.Texts.{cert_items, cert_text}
-use Rattle.authority_certs.specs.declared.cert.Cert.{Cert}
-use Rattle.authority_certs.specs.declared.frame.CertKind.{CertKind}
-use Rattle.authority_certs.specs.declared.frame.CertKind.TheVariants.{Version}
+use Rattle.frame_laws.proofs.{Ends.alone_read, Entries.item_of, Following.IsFirst, Places.after_all, ReadRows.Stand}
+use Rattle.frame_laws.proofs.{Remembered.notes_nothing, Sections.entries_in, StandingParts.between_stands}
+use Rattle.frame_laws.proofs.{TableRows.are_plain, WrittenRows.{is_closed, stand_written}}
+use Rattle.authority_certs.specs.{Certs.cert_in, Heads.{head_of, head_with, no_head}, Reading.{max_cert, with_cert}}
+use Rattle.authority_certs.specs.{Tables.cert_tables, Texts.{cert_items, cert_text}, declared.cert.Cert.Cert}
+use Rattle.authority_certs.specs.declared.frame.CertKind.{CertKind, TheVariants.Version}
 use Rattle.certificate_laws.specs.Again.{CertificatesAreReadAgain, IsInRange, as_written}
 use Rattle.certificate_laws.proofs.CertRows.{HasCertificates, lone_certificate, cert_entries, cert_taken}
 use Rattle.certificate_laws.proofs.CertRows.{certificate_ended, certificate_rows, certificate_same, certification}
-use Rattle.certificate_laws.proofs.CertRows.{last_row, suits_version}
-use Rattle.certificate_laws.proofs.CertSays.{cert_ends, certificate_says}
+use Rattle.certificate_laws.proofs.{CertRows.{last_row, suits_version}, CertSays.{cert_ends, certificate_says}}
 
 -- what its items say that no other kind of document's do: nothing
 abbrev Own : Type 0

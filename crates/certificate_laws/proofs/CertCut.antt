@@ -1,37 +1,22 @@
 -- A certificate's own part alone is read as the same certificate.
-use Rattle.std.proofs.Common.{◌≡◌, ℕ, ◌+◌, true, List, [], ◌∷◌, ◌++◌, length, take, drop, Result, Ok, Err, refl}
-use Rattle.std.proofs.Common.{sym}
-use Rattle.std.proofs.Common.{ap, ◌∙◌, arith}
-use Rattle.std.proofs.lemmas.List.{length-take-le, take-append-drop}
-use Rattle.std.specs.Prelude.{is_some, map}
-use Rattle.std.specs.List.{AllByRecursion}
+use Rattle.std.proofs.Common.{◌≡◌, ℕ, ◌+◌, true, List, [], ◌∷◌, ◌++◌, length, take, drop, Result, Ok, Err, refl, sym}
+use Rattle.std.{proofs.{Common.{ap, ◌∙◌, arith}, lemmas.List.{length-take-le, take-append-drop}}, specs.Prelude.is_some}
+use Rattle.std.specs.{Prelude.map, List.AllByRecursion}
 use Rattle.item_terms.specs.Items.{Item}
-use Rattle.frame_terms.specs.Keywords.{same}
-use Rattle.frame_terms.specs.declared.document.Group.{Group}
-use Rattle.frame_terms.specs.declared.fault.ReadRefusal.{ReadRefusal}
-use Rattle.frame_terms.specs.declared.keyword.Keyword.TheVariants as the
+use Rattle.frame_terms.specs.{Keywords.same, declared.{document.Group.Group, fault.ReadRefusal.ReadRefusal}}
 use Rattle.frame_terms.specs.declared.row.Row.{Row}
-use Rattle.frame_values.specs.Faults.{at_place}
-use Rattle.frame_values.specs.declared.found.Span.{Span}
+use Rattle.frame_terms.specs.declared.keyword.Keyword.TheVariants as the
+use Rattle.frame_values.specs.{Faults.at_place, declared.found.Span.Span}
 use Rattle.frame_values.specs.declared.values.Value.TheVariants as value
-use Rattle.authority_certs.specs.Certs.{cert_in}
-use Rattle.authority_certs.specs.Heads.{head_of}
-use Rattle.authority_certs.specs.Reading.{cert_of, max_cert}
-use Rattle.authority_certs.specs.Tables.{cert_tables, cert_value}
-use Rattle.authority_certs.specs.declared.cert.Cert.{Cert}
-use Rattle.authority_certs.specs.declared.frame.CertKind.{CertKind}
-use Rattle.vote_frame.specs.Tables.{vote_tables}
+use Rattle.authority_certs.specs.{Certs.cert_in, Heads.head_of, Reading.{cert_of, max_cert}, Tables.cert_tables}
+use Rattle.authority_certs.specs.{Tables.cert_value, declared.{cert.Cert.Cert, frame.CertKind.CertKind}}
+use Rattle.vote_frame.specs.{Tables.vote_tables, declared.frame.VoteSection.TheVariants.{Authority, Certificate}}
 use Rattle.vote_frame.specs.declared.frame.VoteKind.TheVariants as kind
-use Rattle.vote_frame.specs.declared.frame.VoteSection.TheVariants.{Authority, Certificate}
-use Rattle.grammar_laws.specs.Parts.{EndWithObjects}
-use Rattle.grammar_laws.proofs.OwnPart.{own_part_same, within_text}
-use Rattle.certificate_laws.specs.Inside.{OwnPartsAreCertificates}
-use Rattle.certificate_laws.specs.Lifted.{lifted_value, moved_span, moved_taken}
-use Rattle.certificate_laws.specs.Within.{AreTakenIn, IsTakenIn, IsValueIn}
-use Rattle.certificate_laws.proofs.CertMakes.{IsLastRow, found_has, last_rows, object_there}
-use Rattle.certificate_laws.proofs.Holding.{CertTaken, Said, alone_rows}
-use Rattle.certificate_laws.proofs.InVotes.{votes_hold}
-use Rattle.certificate_laws.proofs.Lone.{first_taken, lone_is, says_of, was_read}
+use Rattle.grammar_laws.{specs.Parts.EndWithObjects, proofs.OwnPart.{own_part_same, within_text}}
+use Rattle.certificate_laws.specs.{Inside.OwnPartsAreCertificates, Lifted.{lifted_value, moved_span, moved_taken}}
+use Rattle.certificate_laws.{specs.Within.{AreTakenIn, IsTakenIn, IsValueIn}, proofs.CertMakes.{IsLastRow, found_has}}
+use Rattle.certificate_laws.proofs.{CertMakes.{last_rows, object_there}, Holding.{CertTaken, Said, alone_rows}}
+use Rattle.certificate_laws.proofs.{InVotes.votes_hold, Lone.{first_taken, lone_is, says_of, was_read}}
 use Rattle.certificate_laws.proofs.MovedParts.{certs_say}
 
 -- ---- certificates end with their last item's object

@@ -1,39 +1,26 @@
 -- What an item makes of a certificate that stands alone.
-use Rattle.std.proofs.Common.{◌≡◌, ℕ, Bool, true, false, List, [], ◌∷◌, ◌++◌, Option, Some, None, Result, Ok, Err}
-use Rattle.std.proofs.Common.{refl, sym, ap, subst, ◌∙◌}
-use Rattle.std.specs.Prelude.{not, ◌&&◌, if◌then◌else◌, is_some, codes}
+use Rattle.std.proofs.Common.{◌≡◌, ℕ, Bool, true, false, List, [], ◌∷◌, ◌++◌, Option, Some, None, Result, Ok, Err, refl}
+use Rattle.std.{proofs.Common.{sym, ap, subst, ◌∙◌}, specs.Prelude.{not, ◌&&◌, if◌then◌else◌, is_some, codes}}
 use Rattle.std.specs.List.{AllByRecursion, find}
 use Rattle.item_terms.specs.Items.{Item, Object}
-use Rattle.frame_terms.specs.Decisions.{made_by, unless_fault}
-use Rattle.frame_terms.specs.Keywords.{same, word_of}
-use Rattle.frame_terms.specs.Order.{is_strange}
-use Rattle.frame_terms.specs.Refusals.{refusal_at}
-use Rattle.frame_terms.specs.Rows.{is_many, is_one, row}
-use Rattle.frame_terms.specs.declared.row.Count.TheVariants.{One, Optional}
-use Rattle.frame_terms.specs.Sections.{accept, keyword_if, lacking_keyword, lacking_but, row_of, stands, taken_as, taken_of}
+use Rattle.frame_terms.specs.{Decisions.{made_by, unless_fault}, Keywords.{same, word_of}, Order.is_strange}
+use Rattle.frame_terms.specs.{Refusals.refusal_at, Rows.{is_many, is_one, row}, declared.row.Count.TheVariants.One}
+use Rattle.frame_terms.specs.declared.{row.{Count.TheVariants.Optional, Row.Row}, document.Made.Made}
+use Rattle.frame_terms.specs.declared.document.Made.TheVariants.{Passes, Pushes, Leaves, Ends, Opens, Enters, Stops}
+use Rattle.frame_terms.specs.declared.fault.{FrameFault.FrameFault, FrameReason.TheVariants.Twice}
+use Rattle.frame_terms.specs.{declared.{fault.ReadRefusal.ReadRefusal, keyword.Keyword.Keyword}, Sections.accept}
+use Rattle.frame_terms.specs.Sections.{keyword_if, lacking_keyword, lacking_but, row_of, stands, taken_as, taken_of}
 use Rattle.frame_terms.specs.Standing.{as_made, begins_again, by_keyword, by_row, ends, enters, goes_on, in_section}
 use Rattle.frame_terms.specs.Standing.{unless}
-use Rattle.frame_terms.specs.declared.document.Made.{Made}
-use Rattle.frame_terms.specs.declared.document.Made.TheVariants.{Passes, Pushes, Leaves, Ends, Opens, Enters, Stops}
-use Rattle.frame_terms.specs.declared.fault.FrameFault.{FrameFault}
-use Rattle.frame_terms.specs.declared.fault.FrameReason.TheVariants.{Twice}
-use Rattle.frame_terms.specs.declared.fault.ReadRefusal.{ReadRefusal}
-use Rattle.frame_terms.specs.declared.keyword.Keyword.{Keyword}
 use Rattle.frame_terms.specs.declared.keyword.Keyword.TheVariants as the
-use Rattle.frame_terms.specs.declared.row.Row.{Row}
 use Rattle.frame_terms.specs.declared.section.Again.TheVariants as again
-use Rattle.frame_values.specs.Arguments.{next}
-use Rattle.frame_values.specs.Faults.{at_place}
-use Rattle.frame_values.specs.Signatures.{has_words, object_if}
-use Rattle.frame_values.specs.declared.found.Span.{Span}
-use Rattle.frame_values.specs.declared.values.Value.{Value}
+use Rattle.frame_values.specs.{Arguments.next, Faults.at_place, Signatures.{has_words, object_if}}
+use Rattle.frame_values.specs.declared.{found.Span.Span, values.Value.Value}
 use Rattle.frame_values.specs.declared.values.Value.TheVariants as value
-use Rattle.authority_certs.specs.Tables.{cert_tables, cert_value}
-use Rattle.authority_certs.specs.declared.frame.CertKind.{CertKind}
+use Rattle.authority_certs.specs.{Tables.{cert_tables, cert_value}, declared.frame.CertKind.CertKind}
 use Rattle.authority_certs.specs.declared.frame.CertKind.TheVariants.{Version, Address, Fingerprint, Time, Key}
 use Rattle.authority_certs.specs.declared.frame.CertKind.TheVariants.{Crosscert, Certification}
-use Rattle.certificate_laws.proofs.Holding.{CertTaken, Said, alone_rows}
-use Rattle.certificate_laws.proofs.Simulated.{alone, never_beyond, order_if}
+use Rattle.certificate_laws.proofs.{Holding.{CertTaken, Said, alone_rows}, Simulated.{alone, never_beyond, order_if}}
 
 -- it is the last, and has an object
 pub record IsLastMade (item : Item) (one : CertTaken) : Type 0 where

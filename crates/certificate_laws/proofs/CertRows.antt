@@ -1,47 +1,25 @@
 -- A certificate, row by row of its section's table, in any kind of document that has certificates.
 use Rattle.std.proofs.Common.{◌≡◌, ℕ, true, false, List, [], ◌∷◌, Option, Some, Result, Ok, refl, ap, ◌∙◌, sym}
-use Rattle.std.proofs.Common.{append_assoc}
-use Rattle.std.specs.Prelude.{IfSome, codes, map}
-use Rattle.std.proofs.lemmas.List.{map-append}
-use Rattle.dirdoc_grammar.specs.Writers.{is_argument}
-use Rattle.dirdoc_grammar.specs.Writing.{written}
+use Rattle.std.{proofs.{Common.append_assoc, lemmas.List.map-append}, specs.Prelude.{IfSome, codes, map}}
+use Rattle.dirdoc_grammar.specs.{Writers.is_argument, Writing.written}
 use Rattle.item_terms.specs.Items.{Item}
-use Rattle.frame_terms.specs.Keywords.{same}
-use Rattle.frame_terms.specs.Order.{is_keyword, section_if}
-use Rattle.frame_terms.specs.Rows.{row}
-use Rattle.frame_terms.specs.Sections.{row_of}
-use Rattle.frame_terms.specs.Tables.{Tables}
-use Rattle.frame_terms.specs.declared.document.Taken.{Taken}
-use Rattle.frame_terms.specs.declared.keyword.Keyword.{Keyword}
+use Rattle.frame_terms.specs.{Keywords.same, Order.{is_keyword, section_if}, Rows.row, Sections.row_of, Tables.Tables}
+use Rattle.frame_terms.specs.declared.{document.Taken.Taken, keyword.Keyword.Keyword, row.Count.Count}
+use Rattle.frame_terms.specs.declared.{row.{Count.TheVariants.{One, Optional}, Row.Row}, section.Shape.Shape}
 use Rattle.frame_terms.specs.declared.keyword.Keyword.TheVariants as the
-use Rattle.frame_terms.specs.declared.row.Count.{Count}
-use Rattle.frame_terms.specs.declared.row.Count.TheVariants.{One, Optional}
-use Rattle.frame_terms.specs.declared.row.Row.{Row}
-use Rattle.frame_terms.specs.declared.section.Shape.{Shape}
-use Rattle.frame_values.specs.Arguments.{next}
-use Rattle.frame_values.specs.declared.found.Span.{Span}
-use Rattle.dir_values.specs.declared.digest.Fingerprint.{Fingerprint as Identity}
-use Rattle.frame_values.specs.Faults.{at_place}
+use Rattle.frame_values.specs.{Arguments.next, declared.{found.Span.Span, values.Value.Value}, Faults.at_place}
 use Rattle.frame_values.specs.Ranges.{AreTwenty}
-use Rattle.frame_values.specs.declared.values.Value.{Value}
+use Rattle.dir_values.specs.declared.digest.Fingerprint.{Fingerprint as Identity}
 use Rattle.frame_values.specs.declared.values.Value.TheVariants as value
-use Rattle.frame_laws.proofs.Both.{both_hold}
-use Rattle.frame_laws.proofs.Ends.{IsEnded, entries_to}
-use Rattle.frame_laws.proofs.Entries.{AlwaysSuits, Entry, all_taken, item_of}
-use Rattle.frame_laws.proofs.LastRows.{rows_to}
-use Rattle.frame_laws.proofs.RowCounts.{said_once}
-use Rattle.frame_laws.proofs.RowValues.{moment_entry, object_entry, identity_entry, items_if, row_if, said_if}
-use Rattle.frame_laws.proofs.RowValues.{text_entry, silent_entry}
-use Rattle.frame_laws.proofs.SaidRows.{AreSaid, IsSaid, RowSays, are_apart, row_once}
-use Rattle.frame_laws.proofs.Sections.{Section}
-use Rattle.frame_laws.proofs.TableRows.{are_plain}
-use Rattle.frame_laws.proofs.WrittenItems.{argument-written, fingerprint-written, literal-written, time-written}
-use Rattle.authority_certs.specs.Tables.{cert_rows, cert_shape, cert_value}
-use Rattle.authority_certs.specs.Texts.{cert_items}
-use Rattle.authority_certs.specs.declared.cert.Cert.{Cert}
-use Rattle.authority_certs.specs.declared.frame.CertKind.{CertKind}
-use Rattle.authority_certs.specs.declared.frame.CertKind.TheVariants.{Version, Address, Fingerprint, Time, Key}
-use Rattle.authority_certs.specs.declared.frame.CertKind.TheVariants.{Crosscert, Certification}
+use Rattle.frame_laws.proofs.{Both.both_hold, Ends.{IsEnded, entries_to}, Entries.{AlwaysSuits, Entry, all_taken}}
+use Rattle.frame_laws.proofs.{Entries.item_of, LastRows.rows_to, RowCounts.said_once, RowValues.moment_entry}
+use Rattle.frame_laws.proofs.RowValues.{object_entry, identity_entry, items_if, row_if, said_if, text_entry}
+use Rattle.frame_laws.proofs.{RowValues.silent_entry, SaidRows.{AreSaid, IsSaid, RowSays, are_apart, row_once}}
+use Rattle.frame_laws.proofs.{Sections.Section, TableRows.are_plain, WrittenItems.argument-written}
+use Rattle.frame_laws.proofs.WrittenItems.{fingerprint-written, literal-written, time-written}
+use Rattle.authority_certs.specs.{Tables.{cert_rows, cert_shape, cert_value}, Texts.cert_items, declared.cert.Cert.Cert}
+use Rattle.authority_certs.specs.declared.frame.CertKind.{CertKind, TheVariants.{Version, Address, Fingerprint, Time}}
+use Rattle.authority_certs.specs.declared.frame.CertKind.TheVariants.{Key, Crosscert, Certification}
 use Rattle.certificate_laws.specs.Again.{SaysInRange}
 
 -- ---- its rows and its items

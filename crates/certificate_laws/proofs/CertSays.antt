@@ -1,36 +1,23 @@
 -- What is kept of a certificate that was written says what the certificate says, with the digest of its covered text.
 use Rattle.std.proofs.Common.{◌≡◌, ℕ, ◌+◌, List, [], ◌∷◌, ◌++◌, length, take, drop, Option, Some, refl, sym, ap, subst}
-use Rattle.std.proofs.Common.{◌∙◌, append_assoc, arith}
+use Rattle.std.proofs.{Common.{◌∙◌, append_assoc, arith}, lemmas.List.{length-append, map-append}}
 use Rattle.std.specs.Prelude.{codes, map}
-use Rattle.std.proofs.lemmas.List.{length-append, map-append}
 use Rattle.sha1.specs.Sha1.{sha1}
-use Rattle.dirdoc_grammar.specs.Bodies.{object_text}
-use Rattle.dirdoc_grammar.specs.Writing.{NewItem, item_text, items_text}
-use Rattle.frame_terms.specs.Keywords.{same, text_of}
-use Rattle.frame_terms.specs.Tables.{Tables}
-use Rattle.frame_terms.specs.declared.document.Taken.{Taken}
+use Rattle.dirdoc_grammar.specs.{Bodies.object_text, Writing.{NewItem, item_text, items_text}}
+use Rattle.frame_terms.specs.{Keywords.{same, text_of}, Tables.Tables, declared.document.Taken.Taken}
 use Rattle.frame_terms.specs.declared.keyword.Keyword.TheVariants as the
-use Rattle.frame_values.specs.Items.{bare}
-use Rattle.frame_values.specs.Values.{after_in, item_at, line_end_in}
-use Rattle.frame_values.specs.declared.values.Value.{Value}
+use Rattle.frame_values.specs.{Items.bare, Values.{after_in, item_at, line_end_in}, declared.values.Value.Value}
 use Rattle.frame_values.proofs.ItemsTexts.{sections}
-use Rattle.frame_laws.proofs.Ends.{end_with-last}
-use Rattle.frame_laws.proofs.Entries.{item_of, taken_at}
-use Rattle.frame_laws.proofs.LastRows.{last_item, section_to_is_read}
-use Rattle.frame_laws.proofs.Places.{after_all, after_all-same}
-use Rattle.frame_laws.proofs.ReadRows.{AreRead, Stand, row_read}
+use Rattle.frame_laws.proofs.{Ends.end_with-last, Entries.{item_of, taken_at}, LastRows.{last_item, section_to_is_read}}
+use Rattle.frame_laws.proofs.{Places.{after_all, after_all-same}, ReadRows.{AreRead, Stand, row_read}}
 use Rattle.frame_laws.proofs.RowValues.{identity_said, items_if, moment_said, object_said, text_if_said}
-use Rattle.frame_laws.proofs.Sections.{end_of, entries_in}
-use Rattle.frame_laws.proofs.StandingParts.{front_stands}
-use Rattle.frame_laws.proofs.WrittenRows.{from_place, text_of_entries}
-use Rattle.authority_certs.specs.Certs.{cert_in, covered_part, whole_part}
-use Rattle.authority_certs.specs.Heads.{head_of}
-use Rattle.authority_certs.specs.Texts.{cert_text}
-use Rattle.authority_certs.specs.declared.cert.Cert.{Cert}
-use Rattle.authority_certs.specs.declared.frame.CertKind.{CertKind}
-use Rattle.certificate_laws.specs.Again.{SaysInRange, as_written, covered_items}
-use Rattle.certificate_laws.proofs.CertRows.{HasCertificates, all_rows, lone_certificate, cert_entries, cert_taken}
-use Rattle.certificate_laws.proofs.CertRows.{certificate, certificate_ended, certificate_same, certification, last_row}
+use Rattle.frame_laws.proofs.{Sections.{end_of, entries_in}, StandingParts.front_stands, WrittenRows.from_place}
+use Rattle.frame_laws.proofs.WrittenRows.{text_of_entries}
+use Rattle.authority_certs.specs.{Certs.{cert_in, covered_part, whole_part}, Heads.head_of, Texts.cert_text}
+use Rattle.authority_certs.specs.declared.{cert.Cert.Cert, frame.CertKind.CertKind}
+use Rattle.certificate_laws.{specs.Again.{SaysInRange, as_written, covered_items}, proofs.CertRows.HasCertificates}
+use Rattle.certificate_laws.proofs.CertRows.{all_rows, lone_certificate, cert_entries, cert_taken, certificate}
+use Rattle.certificate_laws.proofs.CertRows.{certificate_ended, certificate_same, certification, last_row}
 
 -- ---- the covered text
 

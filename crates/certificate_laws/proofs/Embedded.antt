@@ -1,40 +1,22 @@
 -- A certificate inside another document is read as it is read alone, so many bytes further on.
-use Rattle.std.proofs.Common.{◌≡◌, ℕ, ◌+◌, ◌≤◌, Bool, true, false, List, [], ◌∷◌, ◌++◌, Option, Some, None}
-use Rattle.std.proofs.Common.{refl}
-use Rattle.std.proofs.Common.{Result, Ok, Err, sym, ap, ◌∙◌}
-use Rattle.std.specs.Prelude.{map, is_some, ◌||◌, if◌then◌else◌}
-use Rattle.std.specs.List.{AllByRecursion}
-use Rattle.std.proofs.lemmas.Cmp.{nat_eq_equiv}
-use Rattle.std.proofs.lemmas.List.{map-append}
-use Rattle.item_terms.specs.Items.{Item}
-use Rattle.item_terms.specs.declared.fault.DocFault.{DocFault}
-use Rattle.frame_terms.specs.Decisions.{made_by}
-use Rattle.frame_terms.specs.Documents.{Document, after_made, after_noted, at_end, closed_at, go_on, group}
-use Rattle.frame_terms.specs.Documents.{note_of_made}
-use Rattle.frame_terms.specs.Documents.{onto, read_items}
-use Rattle.frame_terms.specs.Keywords.{number_of, same}
-use Rattle.frame_terms.specs.Order.{first_of}
-use Rattle.frame_terms.specs.Sections.{lacking_keyword, stands}
-use Rattle.frame_terms.specs.Tables.{Tables}
-use Rattle.frame_terms.specs.declared.document.Group.{Group}
-use Rattle.frame_terms.specs.declared.document.Made.{Made}
-use Rattle.frame_terms.specs.declared.document.Made.TheVariants.{Ends, Enters, Leaves, Opens, Passes, Pushes, Stops}
-use Rattle.frame_terms.specs.declared.document.Open.{Open}
-use Rattle.frame_terms.specs.declared.document.Taken.{Taken}
-use Rattle.frame_terms.specs.declared.fault.FrameFault.{FrameFault}
-use Rattle.frame_terms.specs.declared.fault.ReadRefusal.{ReadRefusal}
-use Rattle.frame_terms.specs.declared.keyword.Keyword.{Keyword}
+use Rattle.std.proofs.Common.{◌≡◌, ℕ, ◌+◌, ◌≤◌, Bool, true, false, List, [], ◌∷◌, ◌++◌, Option, Some, None, refl}
+use Rattle.std.{proofs.{Common.{Result, Ok, Err, sym, ap, ◌∙◌}, lemmas.List.map-append}, specs.Prelude.{map, is_some}}
+use Rattle.std.specs.{Prelude.{◌||◌, if◌then◌else◌}, List.AllByRecursion}
+use Rattle.item_terms.specs.{Items.Item, declared.fault.DocFault.DocFault}
+use Rattle.frame_terms.specs.{Decisions.made_by, Documents.{Document, after_made, after_noted, at_end, closed_at}}
+use Rattle.frame_terms.specs.{Documents.{go_on, group, note_of_made, onto, read_items}, Keywords.same, Order.first_of}
+use Rattle.frame_terms.specs.{Sections.{lacking_keyword, stands}, Tables.Tables, declared.document.Group.Group}
+use Rattle.frame_terms.specs.declared.document.Made.{Made, TheVariants.{Ends, Enters, Leaves, Opens, Passes, Pushes}}
+use Rattle.frame_terms.specs.declared.document.{Made.TheVariants.Stops, Open.Open, Taken.Taken}
+use Rattle.frame_terms.specs.declared.{fault.{FrameFault.FrameFault, ReadRefusal.ReadRefusal}, keyword.Keyword.Keyword}
 use Rattle.frame_terms.specs.declared.keyword.Keyword.TheVariants as the
-use Rattle.frame_values.specs.Values.{item_at}
-use Rattle.frame_values.specs.declared.values.Value.{Value}
-use Rattle.authority_certs.specs.Tables.{cert_tables}
-use Rattle.authority_certs.specs.declared.frame.CertKind.{CertKind}
+use Rattle.frame_values.specs.{Values.item_at, declared.values.Value.Value}
+use Rattle.authority_certs.specs.{Tables.cert_tables, declared.frame.CertKind.CertKind}
+use Rattle.frame_laws.proofs.KnownWords.{same-sym}
 use Rattle.grammar_laws.specs.Moved.{moved_item}
-use Rattle.certificate_laws.specs.Given.{IsNoStranger}
-use Rattle.certificate_laws.specs.Lifted.{moved_taken}
-use Rattle.certificate_laws.proofs.CertMakes.{IsLastMade, lacks, made_is}
-use Rattle.certificate_laws.proofs.Holding.{CertTaken, HoldsCertificates, Said, all_moved, alone_rows}
-use Rattle.certificate_laws.proofs.Simulated.{alone, inside, item_moved, made_moved}
+use Rattle.certificate_laws.{specs.{Given.IsNoStranger, Lifted.moved_taken}, proofs.CertMakes.{IsLastMade, lacks}}
+use Rattle.certificate_laws.proofs.{CertMakes.made_is, Holding.{CertTaken, HoldsCertificates, Said, all_moved}}
+use Rattle.certificate_laws.proofs.{Holding.alone_rows, Simulated.{alone, inside, item_moved, made_moved}}
 
 abbrev pub CertDocument : Type 0
 CertDocument = Document (Unit {0}) Said
@@ -54,17 +36,13 @@ used_or (Err r) = 0
 abbrev pub whole_document : List CertTaken → ℕ → Result CertDocument ReadRefusal
 whole_document taken used = Ok (record { groups = group tt taken ∷ []; used = used })
 
-same_other : (a b : Keyword) → same a b ≡ same b a
-unfolding same
-same_other a b = nat_eq_equiv.symm (number_of a) (number_of b)
-
 neither : (a b : Bool) → (a || b) ≡ false → (a ≡ false) × (b ≡ false)
 neither true b e = absurd (cc e)
 neither false b e = (refl, e)
 
 not_yet : (l : List CertTaken) (one : CertTaken) → stands the.DirKeyCertification l ≡ false
     → same the.DirKeyCertification one.keyword ≡ false → stands the.DirKeyCertification (l ++ one ∷ []) ≡ false
-not_yet [] one none new = ap (λ (t : Bool). t || false) (same_other one.keyword the.DirKeyCertification ∙ new)
+not_yet [] one none new = ap (λ (t : Bool). t || false) (same-sym one.keyword the.DirKeyCertification ∙ new)
 not_yet (a ∷ l) one none new =
     let p = neither (same a.keyword the.DirKeyCertification) (stands the.DirKeyCertification l) none in
     ap (λ (t : Bool). t || stands the.DirKeyCertification (l ++ one ∷ [])) p.0 ∙ not_yet l one p.1 new
@@ -220,7 +198,7 @@ module _ {S K W X : Type 0} (tables : Tables S K (Value W) X) (outer name : S) (
     last = one;
     last_there =
         found_behind the.DirKeyCertification (first ∷ before) one none
-        (same_other one.keyword the.DirKeyCertification ∙ made.keyword);
+        (same-sym one.keyword the.DirKeyCertification ∙ made.keyword);
     last_ends = made.after ∙ ap used_or end_;
     inside_it = λ n length_ across around fault rest near known.
         one_read n length_ across around fault first before item rest (Ends one) is near.0 known.0

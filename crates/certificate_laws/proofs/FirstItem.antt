@@ -1,46 +1,26 @@
 -- The first item of a certificate, alone and inside another document.
-use Rattle.std.proofs.Common.{◌≡◌, ℕ, ◌+◌, ◌-◌, ◌≤◌, Bool, true, false, List, [], ◌∷◌, Option, Some, None, refl}
-use Rattle.std.proofs.Common.{Result, Ok, Err, sym, ap, subst, ◌∙◌, arith}
-use Rattle.std.specs.Prelude.{nat_lt, if◌then◌else◌}
-use Rattle.std.proofs.lemmas.Bool.{le-ltb}
+use Rattle.std.proofs.Common.{◌≡◌, ℕ, ◌+◌, ◌-◌, ◌≤◌, Bool, true, false, List, [], ◌∷◌, Option, Some, None, refl, Result}
+use Rattle.std.{proofs.{Common.{Ok, Err, sym, ap, subst, ◌∙◌, arith}, lemmas.Bool.le-ltb}, specs.Prelude.nat_lt}
+use Rattle.std.specs.Prelude.{if◌then◌else◌}
 use Rattle.item_terms.specs.Items.{Item}
 use Rattle.frame_terms.specs.Decisions.{beyond, beyond_inside, first_item, made_by, made_first, made_later}
-use Rattle.frame_terms.specs.Decisions.{unless_fault}
-use Rattle.frame_terms.specs.Decisions.{unless_refused}
-use Rattle.frame_terms.specs.Documents.{start}
-use Rattle.frame_terms.specs.Keywords.{same, word_of}
-use Rattle.frame_terms.specs.Order.{inner, opener}
-use Rattle.frame_terms.specs.Refusals.{refusal_at}
-use Rattle.frame_terms.specs.Rows.{row}
-use Rattle.frame_terms.specs.Sections.{accept, lacking_but, stands, taken_as, taken_of}
-use Rattle.frame_terms.specs.Standing.{as_made, begins_again, by_keyword, by_row, ends, enters, goes_on, in_section}
-use Rattle.frame_terms.specs.Standing.{unless}
-use Rattle.frame_terms.specs.Tables.{Tables}
-use Rattle.frame_terms.specs.declared.document.Made.{Made}
-use Rattle.frame_terms.specs.declared.document.Made.TheVariants.{Enters, Passes, Pushes}
-use Rattle.frame_terms.specs.declared.document.Open.{Open}
-use Rattle.frame_terms.specs.declared.document.Taken.{Taken}
-use Rattle.frame_terms.specs.declared.fault.FrameFault.{FrameFault}
-use Rattle.frame_terms.specs.declared.fault.FrameReason.TheVariants.{Missing, TooMany, Twice}
-use Rattle.frame_terms.specs.declared.fault.ReadRefusal.{ReadRefusal}
-use Rattle.frame_terms.specs.declared.keyword.Keyword.{Keyword}
+use Rattle.frame_terms.specs.{Decisions.{unless_fault, unless_refused}, Documents.start, Keywords.{same, word_of}}
+use Rattle.frame_terms.specs.{Order.{inner, opener}, Refusals.refusal_at, Rows.row, Sections.{accept, lacking_but}}
+use Rattle.frame_terms.specs.{Sections.{stands, taken_as, taken_of}, Standing.{as_made, begins_again, by_keyword}}
+use Rattle.frame_terms.specs.{Standing.{by_row, ends, enters, goes_on, in_section, unless}, Tables.Tables}
+use Rattle.frame_terms.specs.declared.document.{Made.{Made, TheVariants.{Enters, Passes, Pushes}}, Open.Open}
+use Rattle.frame_terms.specs.declared.{document.Taken.Taken, fault.FrameFault.FrameFault}
+use Rattle.frame_terms.specs.declared.fault.{FrameReason.TheVariants.{Missing, TooMany, Twice}, ReadRefusal.ReadRefusal}
+use Rattle.frame_terms.specs.declared.{keyword.Keyword.Keyword, row.{Count.TheVariants.One, Row.Row}}
+use Rattle.frame_terms.specs.declared.section.{Again.Again, Shape.Shape}
 use Rattle.frame_terms.specs.declared.keyword.Keyword.TheVariants as the
-use Rattle.frame_terms.specs.declared.row.Count.TheVariants.{One}
 use Rattle.frame_terms.specs.declared.row.Limit.TheVariants as limit
-use Rattle.frame_terms.specs.declared.row.Row.{Row}
-use Rattle.frame_terms.specs.declared.section.Again.{Again}
-use Rattle.frame_terms.specs.declared.section.Shape.{Shape}
-use Rattle.frame_values.specs.Faults.{at_place}
-use Rattle.frame_values.specs.declared.values.Value.{Value}
-use Rattle.authority_certs.specs.Tables.{cert_tables, cert_value}
-use Rattle.authority_certs.specs.declared.frame.CertKind.{CertKind}
+use Rattle.frame_values.specs.{Faults.at_place, declared.values.Value.Value}
+use Rattle.authority_certs.specs.{Tables.{cert_tables, cert_value}, declared.frame.CertKind.CertKind}
 use Rattle.authority_certs.specs.declared.frame.CertKind.TheVariants.{Version}
 use Rattle.grammar_laws.specs.Moved.{moved_item}
-use Rattle.certificate_laws.specs.Lifted.{moved_taken}
-use Rattle.certificate_laws.proofs.CertMakes.{made_or}
-use Rattle.certificate_laws.proofs.Holding.{HoldsCertificates, Said}
-use Rattle.certificate_laws.proofs.MovedValues.{value_moved}
-use Rattle.certificate_laws.proofs.Simulated.{taken_of_moved}
+use Rattle.certificate_laws.{specs.Lifted.moved_taken, proofs.{CertMakes.made_or, Holding.{HoldsCertificates, Said}}}
+use Rattle.certificate_laws.proofs.{MovedValues.value_moved, Simulated.taken_of_moved}
 
 is_version : (keyword : Keyword) → same keyword the.DirKeyCertificateVersion ≡ true
     → keyword ≡ the.DirKeyCertificateVersion

@@ -1,30 +1,18 @@
 -- What the tables of a document that holds certificates say of an item of one.
-use Rattle.std.proofs.Common.{◌≡◌, ℕ, ◌+◌, Bool, true, false, List, [], ◌∷◌, Option, Some, None, Ok, refl, ap}
-use Rattle.std.proofs.Common.{◌∙◌}
-use Rattle.std.specs.Prelude.{map, option_map, not, ◌&&◌, ◌||◌, if◌then◌else◌}
-use Rattle.std.specs.List.{find}
+use Rattle.std.proofs.Common.{◌≡◌, ℕ, ◌+◌, Bool, true, false, List, [], ◌∷◌, Option, Some, None, Ok, refl, ap, ◌∙◌}
+use Rattle.std.specs.{Prelude.{map, option_map, not, ◌&&◌, ◌||◌, if◌then◌else◌}, List.find}
 use Rattle.item_terms.specs.Items.{Item}
-use Rattle.frame_terms.specs.Keywords.{same}
-use Rattle.frame_terms.specs.Order.{following_sections, inner, is_keyword, section_if}
-use Rattle.frame_terms.specs.Rows.{is_one, row}
-use Rattle.frame_terms.specs.Sections.{keyword_if, lacking_but, row_of, stands}
-use Rattle.frame_terms.specs.Standing.{begins_again}
-use Rattle.frame_terms.specs.Tables.{Tables}
-use Rattle.frame_terms.specs.declared.document.Taken.{Taken}
-use Rattle.frame_terms.specs.declared.keyword.Keyword.{Keyword}
+use Rattle.frame_terms.specs.{Keywords.same, Order.{following_sections, inner, is_keyword, section_if}, Rows.is_one}
+use Rattle.frame_terms.specs.{Rows.row, Sections.{keyword_if, lacking_but, row_of, stands}, Standing.begins_again}
+use Rattle.frame_terms.specs.{Tables.Tables, declared.{document.Taken.Taken, keyword.Keyword.Keyword}}
+use Rattle.frame_terms.specs.declared.{row.{Count.TheVariants.One, Row.Row}, section.Shape.Shape}
 use Rattle.frame_terms.specs.declared.keyword.Keyword.TheVariants as the
-use Rattle.frame_terms.specs.declared.row.Count.TheVariants.{One}
-use Rattle.frame_terms.specs.declared.row.Row.{Row}
 use Rattle.frame_terms.specs.declared.section.Again.TheVariants as again
-use Rattle.frame_terms.specs.declared.section.Shape.{Shape}
-use Rattle.frame_values.specs.Faults.{at_place}
-use Rattle.frame_values.specs.declared.values.Value.{Value}
+use Rattle.frame_values.specs.{Faults.at_place, declared.values.Value.Value}
 use Rattle.frame_laws.proofs.Steps.{IsAmong}
-use Rattle.authority_certs.specs.Tables.{cert_rows, cert_value}
-use Rattle.authority_certs.specs.declared.frame.CertKind.{CertKind}
+use Rattle.authority_certs.specs.{Tables.{cert_rows, cert_value}, declared.frame.CertKind.CertKind}
 use Rattle.authority_certs.specs.declared.frame.CertKind.TheVariants.{Version}
-use Rattle.certificate_laws.proofs.CertRows.{HasCertificates}
-use Rattle.certificate_laws.specs.Lifted.{moved_taken}
+use Rattle.certificate_laws.{proofs.CertRows.HasCertificates, specs.Lifted.moved_taken}
 
 -- what an item of a certificate says that stands alone, and what is taken of one
 abbrev pub Said : Type 0

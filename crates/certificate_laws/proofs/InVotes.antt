@@ -3,15 +3,11 @@ use Rattle.std.proofs.Common.{◌≡◌, ℕ, ◌+◌, refl, Ok}
 use Rattle.std.specs.Prelude.{}
 use Rattle.frame_terms.specs.Keywords.{same}
 use Rattle.frame_values.specs.declared.values.Value.TheVariants as value
-use Rattle.certificate_laws.proofs.CertRows.{HasCertificates}
-use Rattle.vote_frame.specs.Tables.{note_value, vote_tables}
-use Rattle.vote_frame.specs.declared.across.Across.{Across}
-use Rattle.vote_frame.specs.declared.frame.VoteKind.TheVariants as kind
+use Rattle.certificate_laws.proofs.{CertRows.HasCertificates, Holding.{HoldsCertificates, Said}, StandInside.stand_is}
+use Rattle.certificate_laws.specs.{Inside.GivenStandInside, Lifted.lifted_value}
+use Rattle.vote_frame.specs.{Tables.{note_value, vote_tables}, declared.across.Across.Across}
 use Rattle.vote_frame.specs.declared.frame.VoteSection.TheVariants.{Authority, Certificate}
-use Rattle.certificate_laws.specs.Inside.{GivenStandInside}
-use Rattle.certificate_laws.specs.Lifted.{lifted_value}
-use Rattle.certificate_laws.proofs.Holding.{HoldsCertificates, Said}
-use Rattle.certificate_laws.proofs.StandInside.{stand_is}
+use Rattle.vote_frame.specs.declared.frame.VoteKind.TheVariants as kind
 
 -- nothing is remembered of a certificate's items
 quiet : (across : Across) (place n : ℕ) (said : Said) → note_value across place (lifted_value n said) ≡ Ok across

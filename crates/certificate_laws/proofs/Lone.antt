@@ -1,45 +1,23 @@
 -- A certificate that was read alone: its items, and what is taken of them.
 use Rattle.std.proofs.Common.{◌≡◌, ℕ, ◌+◌, ◌≤◌, List, [], ◌∷◌, ◌++◌, length, Option, Some, Result, Ok, Err, refl, sym}
-use Rattle.std.proofs.Common.{ap}
-use Rattle.std.proofs.Common.{subst, ◌∙◌, arith}
-use Rattle.std.specs.Prelude.{All, is_some, None}
-use Rattle.std.proofs.lemmas.List.Elements.{All-head}
-use Rattle.std.specs.List.{AllByRecursion}
-use Rattle.item_terms.specs.Items.{Item, items_of, nothing}
-use Rattle.item_terms.specs.Lines.{lines}
-use Rattle.item_terms.specs.declared.fault.DocFault.{DocFault}
-use Rattle.frame_terms.specs.Decisions.{made_by}
-use Rattle.frame_terms.specs.Documents.{after_made, at_end, document_of, finish, group, read_items, start}
-use Rattle.frame_terms.specs.Keywords.{same}
-use Rattle.frame_terms.specs.Sections.{taken_of}
-use Rattle.frame_terms.specs.Tables.{Tables}
-use Rattle.frame_terms.specs.declared.document.Group.{Group}
-use Rattle.frame_terms.specs.declared.document.Made.{Made}
-use Rattle.frame_terms.specs.declared.document.Open.{Open}
-use Rattle.frame_terms.specs.declared.fault.ReadRefusal.{ReadRefusal}
+use Rattle.std.{proofs.{Common.{ap, subst, ◌∙◌, arith}, lemmas.List.Elements.All-head}, specs.Prelude.{All, is_some}}
+use Rattle.std.specs.{Prelude.None, List.AllByRecursion}
+use Rattle.item_terms.specs.{Items.{Item, items_of, nothing}, Lines.lines, declared.fault.DocFault.DocFault}
+use Rattle.frame_terms.specs.{Decisions.made_by, Documents.{after_made, at_end, document_of, finish, group, read_items}}
+use Rattle.frame_terms.specs.{Documents.start, Keywords.same, Sections.taken_of, Tables.Tables}
+use Rattle.frame_terms.specs.declared.{document.{Group.Group, Made.Made, Open.Open}, fault.ReadRefusal.ReadRefusal}
 use Rattle.frame_terms.specs.declared.keyword.Keyword.TheVariants as the
-use Rattle.frame_values.specs.Values.{after_in}
-use Rattle.frame_values.specs.declared.values.Value.{Value}
-use Rattle.authority_certs.specs.Certs.{cert_in}
-use Rattle.authority_certs.specs.Heads.{head_of, head_with, no_head}
-use Rattle.authority_certs.specs.Reading.{cert_of, max_cert, with_cert}
-use Rattle.authority_certs.specs.Tables.{cert_tables}
-use Rattle.authority_certs.specs.declared.cert.Cert.{Cert}
+use Rattle.frame_values.specs.{Values.after_in, declared.values.Value.Value}
+use Rattle.authority_certs.specs.{Certs.cert_in, Heads.{head_of, head_with, no_head}, Reading.{cert_of, max_cert}}
+use Rattle.authority_certs.specs.{Reading.with_cert, Tables.cert_tables, declared.cert.Cert.Cert}
 use Rattle.authority_certs.specs.declared.frame.CertKind.{CertKind}
-use Rattle.grammar_laws.specs.Moved.{Reads, sizes}
-use Rattle.grammar_laws.proofs.LastLines.{last_lines}
-use Rattle.grammar_laws.proofs.LinesTogether.{sizes_all}
-use Rattle.grammar_laws.proofs.SoundLines.{items_within, some_lines, within_all}
-use Rattle.grammar_laws.proofs.WithinLines.{IsIn, items_in}
-use Rattle.document_laws.specs.Items.{AreItemsIn}
-use Rattle.document_laws.proofs.Taking.{are_said}
+use Rattle.grammar_laws.{specs.Moved.{Reads, sizes}, proofs.{LastLines.last_lines, LinesTogether.sizes_all}}
+use Rattle.grammar_laws.proofs.{SoundLines.{items_within, some_lines, within_all}, WithinLines.{IsIn, items_in}}
+use Rattle.document_laws.{specs.Items.AreItemsIn, proofs.Taking.are_said}
 use Rattle.row_laws.proofs.Saying.{all_sound}
-use Rattle.certificate_laws.specs.Within.{AreTakenIn}
-use Rattle.certificate_laws.proofs.Embedded.{CertDocument, GoesOn, goes_on_so}
-use Rattle.certificate_laws.proofs.FirstItem.{Begins, first_begins}
-use Rattle.certificate_laws.proofs.Holding.{CertTaken, HoldsCertificates, Said}
-use Rattle.certificate_laws.proofs.Simulated.{alone}
-use Rattle.certificate_laws.proofs.TakenIn.{all_taken_in}
+use Rattle.certificate_laws.{specs.Within.AreTakenIn, proofs.Embedded.{CertDocument, GoesOn, goes_on_so}}
+use Rattle.certificate_laws.proofs.{FirstItem.{Begins, first_begins}, Holding.{CertTaken, HoldsCertificates, Said}}
+use Rattle.certificate_laws.proofs.{Simulated.alone, TakenIn.all_taken_in}
 
 -- ---- the document
 

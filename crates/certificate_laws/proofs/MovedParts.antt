@@ -1,27 +1,19 @@
 -- What is taken of a certificate says the same where its bytes stand behind others.
 use Rattle.std.proofs.Common.{◌≡◌, ℕ, ◌+◌, ◌-◌, ◌≤◌, Bool, true, false, List, [], ◌∷◌, ◌++◌, length, take, drop, Option}
-use Rattle.std.proofs.Common.{Some, refl, ap, ◌∙◌, arith}
-use Rattle.std.specs.Prelude.{map, option_map, is_some, slice_range, unwrap_or, if◌then◌else◌}
-use Rattle.std.specs.List.{AllByRecursion}
-use Rattle.std.proofs.Math.Seq.{drop-append-add}
-use Rattle.std.proofs.lemmas.List.{drop-append-le, length-drop, take-append-le}
+use Rattle.std.proofs.{Common.{Some, refl, ap, ◌∙◌, arith}, Math.Seq.drop-append-add, lemmas.List.drop-append-le}
+use Rattle.std.{proofs.lemmas.List.{length-drop, take-append-le}, specs.Prelude.{map, option_map, is_some, slice_range}}
+use Rattle.std.specs.{Prelude.{unwrap_or, if◌then◌else◌}, List.AllByRecursion}
 use Rattle.sha1.specs.Sha1.{sha1}
 use Rattle.dirdoc_grammar.specs.Bodies.{decoded_bytes}
-use Rattle.frame_terms.specs.Keywords.{same}
-use Rattle.frame_terms.specs.declared.document.Taken.{Taken}
-use Rattle.frame_terms.specs.declared.keyword.Keyword.{Keyword}
+use Rattle.frame_terms.specs.{Keywords.same, declared.{document.Taken.Taken, keyword.Keyword.Keyword}}
 use Rattle.frame_terms.specs.declared.keyword.Keyword.TheVariants as the
-use Rattle.frame_values.specs.Parts.{bytes_in, moment_of, part}
-use Rattle.frame_values.specs.Values.{after_in, fingerprint_of_value, item_at, line_end_in, number_of_value, place_in}
-use Rattle.frame_values.specs.Values.{object_of_value, text_of_value, value_if}
-use Rattle.frame_values.specs.declared.found.Span.{Span}
-use Rattle.frame_values.specs.declared.values.Value.{Value}
+use Rattle.frame_values.specs.{Parts.{bytes_in, moment_of, part}, Values.{after_in, fingerprint_of_value, item_at}}
+use Rattle.frame_values.specs.Values.{line_end_in, number_of_value, place_in, object_of_value, text_of_value, value_if}
+use Rattle.frame_values.specs.declared.{found.Span.Span, values.Value.Value}
 use Rattle.frame_values.specs.declared.values.Value.TheVariants as value
-use Rattle.authority_certs.specs.Certs.{cert_in, whole_part}
-use Rattle.authority_certs.specs.Heads.{head_of}
-use Rattle.certificate_laws.specs.Lifted.{lifted_value, moved_span, moved_taken}
-use Rattle.certificate_laws.specs.Within.{AreTakenIn, CertsSayTheSame, IsSpanIn, IsTakenIn, IsValueIn}
-use Rattle.certificate_laws.proofs.Holding.{CertTaken, Said}
+use Rattle.authority_certs.specs.{Certs.{cert_in, whole_part}, Heads.head_of}
+use Rattle.certificate_laws.specs.{Lifted.{lifted_value, moved_span, moved_taken}, Within.{AreTakenIn, CertsSayTheSame}}
+use Rattle.certificate_laws.{specs.Within.{IsSpanIn, IsTakenIn, IsValueIn}, proofs.Holding.{CertTaken, Said}}
 
 slice_moved : (front bytes rest : List ℕ) (a b : ℕ) → a ≤ length bytes → b ≤ length bytes
     → slice_range (front ++ (bytes ++ rest)) (a + length front) (b + length front) ≡ slice_range bytes a b

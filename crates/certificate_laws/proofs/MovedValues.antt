@@ -1,23 +1,16 @@
 -- What is read of an item of a certificate so many bytes further on is what is read of it here, moved as far; and
 -- where nothing is read of it here, nothing is there.
 use Rattle.std.proofs.Common.{◌≡◌, ℕ, ◌+◌, Bool, true, false, List, [], ◌∷◌, length, Option, Some, None, Result, Ok}
-use Rattle.std.proofs.Common.{Err, refl, sym, ap, ◌∙◌, arith}
-use Rattle.std.specs.Prelude.{map, option_map, codes, if◌then◌else◌, ◌||◌}
-use Rattle.std.specs.Str.{bytes_eq}
-use Rattle.item_terms.specs.Items.{Item, Object}
-use Rattle.item_terms.specs.Words.{is_blank, ends_or_blank}
+use Rattle.std.{proofs.Common.{Err, refl, sym, ap, ◌∙◌, arith}, specs.Prelude.{map, option_map, codes, if◌then◌else◌}}
+use Rattle.std.specs.{Prelude.◌||◌, Str.bytes_eq}
+use Rattle.item_terms.specs.{Items.{Item, Object}, Words.{is_blank, ends_or_blank}}
 use Rattle.dir_bytes.specs.Fields.{date, time_of_day}
-use Rattle.dir_values.specs.Arguments.{Argument, arguments_at, onto}
-use Rattle.dir_values.specs.Digests.{fingerprint}
+use Rattle.dir_values.specs.{Arguments.{Argument, arguments_at, onto}, Digests.fingerprint}
 use Rattle.dir_values.specs.declared.digest.Fingerprint.{Fingerprint}
-use Rattle.frame_values.specs.Arguments.{arguments_of, field, front, next, others}
-use Rattle.frame_values.specs.Fields.{is_there, span, span_if}
-use Rattle.frame_values.specs.Lines.{argument_of, literal, time_of}
-use Rattle.frame_values.specs.Signatures.{has_words, object_if}
-use Rattle.frame_values.specs.declared.found.Span.{Span}
-use Rattle.frame_values.specs.declared.values.Value.{Value}
-use Rattle.authority_certs.specs.Tables.{cert_value}
-use Rattle.authority_certs.specs.declared.frame.CertKind.{CertKind}
+use Rattle.frame_values.specs.{Arguments.{arguments_of, field, front, next, others}, Fields.{is_there, span, span_if}}
+use Rattle.frame_values.specs.{Lines.{argument_of, literal, time_of}, Signatures.{has_words, object_if}}
+use Rattle.frame_values.specs.declared.{found.Span.Span, values.Value.Value}
+use Rattle.authority_certs.specs.{Tables.cert_value, declared.frame.CertKind.CertKind}
 use Rattle.authority_certs.specs.declared.frame.CertKind.TheVariants as kind
 use Rattle.grammar_laws.specs.Moved.{moved_item, moved_object}
 use Rattle.certificate_laws.specs.Lifted.{lifted_value, moved_argument, moved_span}

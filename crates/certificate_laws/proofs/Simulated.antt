@@ -1,42 +1,26 @@
 -- What an item of a certificate makes of a document, inside which the certificate stands so many bytes further on.
 use Rattle.std.proofs.Common.{◌≡◌, ℕ, ◌+◌, ◌-◌, ◌≤◌, Bool, true, false, List, [], ◌∷◌, length, Option, Some, None, refl}
-use Rattle.std.proofs.Common.{Result, Ok, Err, sym, ap, ◌∙◌, arith}
-use Rattle.std.specs.Prelude.{IfSome, option_map, not, ◌&&◌, nat_lt, if◌then◌else◌}
-use Rattle.std.proofs.lemmas.Bool.{le-ltb}
+use Rattle.std.{proofs.{Common.{Result, Ok, Err, sym, ap, ◌∙◌, arith}, lemmas.Bool.le-ltb}, specs.Prelude.IfSome}
+use Rattle.std.specs.Prelude.{option_map, not, ◌&&◌, nat_lt, if◌then◌else◌}
 use Rattle.item_terms.specs.Items.{Item}
-use Rattle.frame_terms.specs.Decisions.{beyond, beyond_inner, beyond_inside, made_by, unless_fault}
-use Rattle.frame_terms.specs.Keywords.{same, word_of}
-use Rattle.frame_terms.specs.Order.{is_strange, opened_by}
-use Rattle.frame_terms.specs.Refusals.{refusal_at}
-use Rattle.frame_terms.specs.Rows.{is_many}
-use Rattle.frame_terms.specs.Sections.{accept, lacking_but, row_of, stands, taken_as, taken_of}
-use Rattle.frame_terms.specs.Standing.{as_made, begins_again, by_keyword, by_row, elsewhere, ends, enters, goes_on}
-use Rattle.frame_terms.specs.Standing.{in_section, unless}
-use Rattle.frame_terms.specs.Tables.{Tables}
-use Rattle.frame_terms.specs.declared.document.Group.{Group}
-use Rattle.frame_terms.specs.declared.document.Made.{Made}
+use Rattle.frame_terms.specs.{Decisions.{beyond, beyond_inner, beyond_inside, made_by, unless_fault}, Keywords.same}
+use Rattle.frame_terms.specs.{Keywords.word_of, Order.{is_strange, opened_by}, Refusals.refusal_at, Rows.is_many}
+use Rattle.frame_terms.specs.{Sections.{accept, lacking_but, row_of, stands, taken_as, taken_of}, Standing.as_made}
+use Rattle.frame_terms.specs.Standing.{begins_again, by_keyword, by_row, elsewhere, ends, enters, goes_on, in_section}
+use Rattle.frame_terms.specs.{Standing.unless, Tables.Tables, declared.document.{Group.Group, Made.Made}}
 use Rattle.frame_terms.specs.declared.document.Made.TheVariants.{Ends, Enters, Leaves, Opens, Passes, Pushes, Stops}
-use Rattle.frame_terms.specs.declared.document.Open.{Open}
-use Rattle.frame_terms.specs.declared.document.Taken.{Taken}
-use Rattle.frame_terms.specs.declared.fault.FrameFault.{FrameFault}
-use Rattle.frame_terms.specs.declared.fault.FrameReason.TheVariants.{Order, TooMany, Twice}
-use Rattle.frame_terms.specs.declared.fault.ReadRefusal.{ReadRefusal}
-use Rattle.frame_terms.specs.declared.keyword.Keyword.{Keyword}
+use Rattle.frame_terms.specs.declared.{document.{Open.Open, Taken.Taken}, fault.FrameFault.FrameFault}
+use Rattle.frame_terms.specs.declared.fault.{FrameReason.TheVariants.{Order, TooMany, Twice}, ReadRefusal.ReadRefusal}
+use Rattle.frame_terms.specs.declared.{keyword.Keyword.Keyword, row.Row.Row, section.{Again.Again, Shape.Shape}}
 use Rattle.frame_terms.specs.declared.keyword.Keyword.TheVariants as the
 use Rattle.frame_terms.specs.declared.row.Limit.TheVariants as limit
-use Rattle.frame_terms.specs.declared.row.Row.{Row}
-use Rattle.frame_terms.specs.declared.section.Again.{Again}
 use Rattle.frame_terms.specs.declared.section.Again.TheVariants as again
-use Rattle.frame_terms.specs.declared.section.Shape.{Shape}
-use Rattle.frame_values.specs.Faults.{at_place}
-use Rattle.frame_values.specs.declared.values.Value.{Value}
-use Rattle.authority_certs.specs.Tables.{cert_tables, cert_value}
-use Rattle.authority_certs.specs.declared.frame.CertKind.{CertKind}
+use Rattle.frame_values.specs.{Faults.at_place, declared.values.Value.Value}
+use Rattle.authority_certs.specs.{Tables.{cert_tables, cert_value}, declared.frame.CertKind.CertKind}
 use Rattle.grammar_laws.specs.Moved.{moved_item}
-use Rattle.certificate_laws.specs.Given.{IsNoStranger}
-use Rattle.certificate_laws.specs.Lifted.{lifted_value, moved_taken}
-use Rattle.certificate_laws.proofs.Holding.{CertTaken, HoldsCertificates, Said, all_moved, alone_rows, lacking_moved}
-use Rattle.certificate_laws.proofs.Holding.{last_there, never_again, none_inside, row_inside, row_there, stands_moved}
+use Rattle.certificate_laws.{specs.{Given.IsNoStranger, Lifted.{lifted_value, moved_taken}}, proofs.Holding.CertTaken}
+use Rattle.certificate_laws.proofs.Holding.{HoldsCertificates, Said, all_moved, alone_rows, lacking_moved, last_there}
+use Rattle.certificate_laws.proofs.Holding.{never_again, none_inside, row_inside, row_there, stands_moved}
 use Rattle.certificate_laws.proofs.MovedValues.{value_moved}
 
 -- what is open in the certificate that stands alone

@@ -1,41 +1,22 @@
 -- Bytes that are given for a certificate stand inside another document.
-use Rattle.std.proofs.Common.{◌≡◌, ℕ, ◌+◌, ◌-◌, ◌≤◌, false, List, [], ◌∷◌, ◌++◌, length, Option, Some, Result}
-use Rattle.std.proofs.Common.{refl, ap, subst, ◌∙◌, arith}
-use Rattle.std.specs.Prelude.{map, slice_range}
+use Rattle.std.proofs.Common.{◌≡◌, ℕ, ◌+◌, ◌-◌, ◌≤◌, false, List, [], ◌∷◌, ◌++◌, length, Option, Some, Result, refl, ap}
+use Rattle.std.{proofs.{Common.{subst, ◌∙◌, arith}, lemmas.List.take_all}, specs.Prelude.{map, slice_range}}
 use Rattle.std.specs.List.{AllByRecursion}
-use Rattle.std.proofs.lemmas.List.{take_all}
-use Rattle.item_terms.specs.Items.{Item, items_of, nothing}
-use Rattle.item_terms.specs.Lines.{lines}
-use Rattle.item_terms.specs.declared.fault.DocFault.{DocFault}
-use Rattle.frame_terms.specs.Documents.{after_made, after_noted, group, onto, read_items}
-use Rattle.frame_terms.specs.Keywords.{same}
-use Rattle.frame_terms.specs.Sections.{stands}
-use Rattle.frame_terms.specs.Tables.{Tables}
-use Rattle.frame_terms.specs.declared.document.Group.{Group}
-use Rattle.frame_terms.specs.declared.document.Made.{Made}
-use Rattle.frame_terms.specs.declared.document.Made.TheVariants.{Enters}
-use Rattle.frame_terms.specs.declared.document.Open.{Open}
-use Rattle.frame_terms.specs.declared.document.Taken.{Taken}
-use Rattle.frame_terms.specs.declared.fault.FrameFault.{FrameFault}
-use Rattle.frame_terms.specs.declared.fault.ReadRefusal.{ReadRefusal}
+use Rattle.item_terms.specs.{Items.{Item, items_of, nothing}, Lines.lines, declared.fault.DocFault.DocFault}
+use Rattle.frame_terms.specs.{Documents.{after_made, after_noted, group, onto, read_items}, Keywords.same}
+use Rattle.frame_terms.specs.{Sections.stands, Tables.Tables, declared.document.{Group.Group, Made.Made}}
+use Rattle.frame_terms.specs.declared.document.{Made.TheVariants.Enters, Open.Open, Taken.Taken}
+use Rattle.frame_terms.specs.declared.fault.{FrameFault.FrameFault, ReadRefusal.ReadRefusal}
 use Rattle.frame_terms.specs.declared.keyword.Keyword.TheVariants as the
 use Rattle.frame_values.specs.declared.values.Value.{Value}
-use Rattle.authority_certs.specs.Certs.{whole_part}
-use Rattle.authority_certs.specs.Heads.{head_of}
-use Rattle.authority_certs.specs.Reading.{max_cert}
-use Rattle.authority_certs.specs.declared.cert.Cert.{Cert}
+use Rattle.authority_certs.specs.{Certs.whole_part, Heads.head_of, Reading.max_cert, declared.cert.Cert.Cert}
 use Rattle.authority_certs.specs.declared.frame.CertKind.{CertKind}
-use Rattle.grammar_laws.specs.Moved.{Reads, moved_item}
-use Rattle.grammar_laws.proofs.FirstPlace.{first_at}
-use Rattle.grammar_laws.proofs.LinesTogether.{together}
+use Rattle.grammar_laws.{specs.Moved.{Reads, moved_item}, proofs.{FirstPlace.first_at, LinesTogether.together}}
 use Rattle.grammar_laws.proofs.SoundLines.{ends_all}
-use Rattle.certificate_laws.specs.Given.{IsGiven, IsNoStranger}
-use Rattle.certificate_laws.specs.Inside.{StandsInside}
-use Rattle.certificate_laws.specs.Lifted.{moved_taken}
-use Rattle.certificate_laws.proofs.Embedded.{IsNear, more_of}
-use Rattle.certificate_laws.proofs.FirstItem.{around_open, first_enters}
-use Rattle.certificate_laws.proofs.Holding.{CertTaken, HoldsCertificates, all_moved}
-use Rattle.certificate_laws.proofs.Lone.{IsLone, WasRead, first_taken, lone_is, was_read}
+use Rattle.certificate_laws.specs.{Given.{IsGiven, IsNoStranger}, Inside.StandsInside, Lifted.moved_taken}
+use Rattle.certificate_laws.proofs.{Embedded.{IsNear, more_of}, FirstItem.{around_open, first_enters}}
+use Rattle.certificate_laws.proofs.{Holding.{CertTaken, HoldsCertificates, all_moved}, Lone.{IsLone, WasRead}}
+use Rattle.certificate_laws.proofs.Lone.{first_taken, lone_is, was_read}
 
 weaker : (P Q : Item → Type 0) → ((item : Item) → P item → Q item) → (l : List Item) → AllByRecursion P l
     → AllByRecursion Q l

@@ -1,27 +1,19 @@
 -- What is taken of a certificate lies within the bytes whose items it is taken of.
 use Rattle.std.proofs.Common.{◌≡◌, ℕ, ◌+◌, ◌-◌, ◌≤◌, Bool, true, false, List, [], ◌∷◌, ◌++◌, length, take, drop, Option}
 use Rattle.std.proofs.Common.{Some, None, Ok, sym, ap, subst, inl, inr, arith, length-drop, length-take}
-use Rattle.std.specs.Prelude.{IfSome, codes, ◌||◌}
-use Rattle.std.specs.List.{AllByRecursion}
+use Rattle.std.specs.{Prelude.{IfSome, codes, ◌||◌}, List.AllByRecursion}
 use Rattle.item_terms.specs.Items.{Item, Object}
 use Rattle.dir_values.specs.Arguments.{Argument}
-use Rattle.frame_values.specs.Arguments.{arguments_of, front, next}
-use Rattle.frame_values.specs.Fields.{is_there, span_of}
-use Rattle.frame_values.specs.Lines.{argument_of}
-use Rattle.frame_values.specs.Parts.{part}
-use Rattle.frame_values.specs.Signatures.{has_words, object_if, object_of}
+use Rattle.frame_values.specs.{Arguments.{arguments_of, front, next}, Fields.{is_there, span_of}, Lines.argument_of}
+use Rattle.frame_values.specs.{Parts.part, Signatures.{has_words, object_if, object_of}}
 use Rattle.frame_values.specs.declared.values.Value.TheVariants as value
-use Rattle.authority_certs.specs.Tables.{cert_tables, cert_value}
-use Rattle.authority_certs.specs.declared.frame.CertKind.{CertKind}
+use Rattle.authority_certs.specs.{Tables.{cert_tables, cert_value}, declared.frame.CertKind.CertKind}
 use Rattle.authority_certs.specs.declared.frame.CertKind.TheVariants as kind
 use Rattle.document_laws.specs.Items.{AreItemsIn, IsItemIn, IsItemOf}
 use Rattle.grammar_laws.proofs.WithinLines.{IsIn}
-use Rattle.row_laws.proofs.ItemArguments.{IsSound, are_found, front_found}
-use Rattle.row_laws.proofs.ReadSteps.{ReadAs, next_reads, placed, span_reads, was_read}
-use Rattle.row_laws.proofs.SaidByKinds.{said_of_any}
-use Rattle.row_laws.proofs.Saying.{EachSound, sound_parts}
-use Rattle.certificate_laws.specs.Within.{IsSpanIn, IsTakenIn, IsValueIn}
-use Rattle.certificate_laws.proofs.Holding.{CertTaken, Said}
+use Rattle.row_laws.proofs.{ItemArguments.{IsSound, are_found, front_found}, ReadSteps.{ReadAs, next_reads, placed}}
+use Rattle.row_laws.proofs.{ReadSteps.{span_reads, was_read}, SaidByKinds.said_of_any, Saying.{EachSound, sound_parts}}
+use Rattle.certificate_laws.{specs.Within.{IsSpanIn, IsTakenIn, IsValueIn}, proofs.Holding.{CertTaken, Said}}
 
 -- an argument that stands in the bytes ends within them
 ends_within : (bytes : List ℕ) (a : Argument) → part bytes (span_of a) ≡ a.text → is_there a.text ≡ true

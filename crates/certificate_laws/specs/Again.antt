@@ -3,14 +3,11 @@ use Rattle.std.specs.Prelude.{◌≡◌, ℕ, ◌≤◌, true, List, [], ◌∷�
 use Rattle.sha1.specs.Sha1.{sha1}
 use Rattle.dir_bytes.specs.Causes.{last_moment}
 use Rattle.dir_values.specs.declared.digest.Digest1.{Digest1}
-use Rattle.dirdoc_grammar.specs.Writers.{is_argument}
-use Rattle.dirdoc_grammar.specs.Writing.{NewItem, AreWritable, items_text}
+use Rattle.dirdoc_grammar.specs.{Writers.is_argument, Writing.{NewItem, AreWritable, items_text}}
 use Rattle.frame_terms.specs.declared.keyword.Keyword.TheVariants as the
-use Rattle.frame_values.specs.Items.{bare, with_object}
-use Rattle.frame_values.specs.Ranges.{AreTwenty}
-use Rattle.authority_certs.specs.declared.cert.Cert.{Cert}
-use Rattle.authority_certs.specs.Reading.{cert_of, max_cert}
-use Rattle.authority_certs.specs.Texts.{cert_items, cert_text, holder_items, key_items}
+use Rattle.frame_values.specs.{Items.{bare, with_object}, Ranges.AreTwenty}
+use Rattle.authority_certs.specs.{declared.cert.Cert.Cert, Reading.{cert_of, max_cert}, Texts.{cert_items, cert_text}}
+use Rattle.authority_certs.specs.Texts.{holder_items, key_items}
 
 -- each of the certificate's values is one that can be read: its address is an argument, its identity twenty bytes,
 -- and its moments are of the calendar

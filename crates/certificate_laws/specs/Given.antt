@@ -1,15 +1,8 @@
 -- The bytes of a certificate that may stand as they are in another document (dir-spec, "Creating key certificates").
-use Rattle.std.specs.Prelude.{◌≡◌, ℕ, true, false, List, length, IfSome, None, Ok}
-use Rattle.std.specs.List.{AllByRecursion}
-use Rattle.item_terms.specs.Items.{Item, items_of}
-use Rattle.item_terms.specs.Words.{first_is, is_letter_or_digit}
-use Rattle.frame_terms.specs.Keywords.{word_of}
-use Rattle.frame_terms.specs.Order.{is_strange}
-use Rattle.frame_terms.specs.Sections.{row_of}
-use Rattle.frame_terms.specs.Tables.{Tables}
-use Rattle.authority_certs.specs.Reading.{cert_of, max_cert}
-use Rattle.authority_certs.specs.Tables.{cert_rows}
-use Rattle.authority_certs.specs.declared.cert.Cert.{Cert}
+use Rattle.std.specs.{Prelude.{◌≡◌, ℕ, true, false, List, length, IfSome, None, Ok}, List.AllByRecursion}
+use Rattle.item_terms.specs.{Items.{Item, items_of}, Words.{first_is, is_letter_or_digit}}
+use Rattle.frame_terms.specs.{Keywords.word_of, Order.is_strange, Sections.row_of, Tables.Tables}
+use Rattle.authority_certs.specs.{Reading.{cert_of, max_cert}, Tables.cert_rows, declared.cert.Cert.Cert}
 
 module _ {S K V X : Type 0} where
   -- the item may stand in a certificate that is this section of a document: it is one of a certificate's, or the

@@ -1,25 +1,16 @@
 -- What it means that the bytes of a certificate stand inside another document.
-use Rattle.std.specs.Prelude.{◌≡◌, ℕ, ◌+◌, ◌≤◌, false, List, [], ◌∷◌, ◌++◌, length, map, take, Option, None}
-use Rattle.std.specs.Prelude.{Ok}
-use Rattle.item_terms.specs.Items.{Item, contents, nothing}
-use Rattle.item_terms.specs.declared.fault.DocFault.{DocFault}
+use Rattle.std.specs.Prelude.{◌≡◌, ℕ, ◌+◌, ◌≤◌, false, List, [], ◌∷◌, ◌++◌, length, map, take, Option, None, Ok}
+use Rattle.item_terms.specs.{Items.{Item, contents, nothing}, declared.fault.DocFault.DocFault}
 use Rattle.dirdoc_grammar.specs.Writing.{in_front}
-use Rattle.frame_terms.specs.Documents.{group, onto, read_items}
-use Rattle.frame_terms.specs.Sections.{stands}
-use Rattle.frame_terms.specs.Tables.{Tables}
+use Rattle.frame_terms.specs.{Documents.{group, onto, read_items}, Sections.stands, Tables.Tables}
 use Rattle.frame_terms.specs.declared.document.Taken.{Taken}
 use Rattle.frame_terms.specs.declared.keyword.Keyword.TheVariants as the
 use Rattle.frame_values.specs.declared.values.Value.{Value}
-use Rattle.authority_certs.specs.Certs.{cert_in, whole_part}
-use Rattle.authority_certs.specs.Heads.{head_of}
-use Rattle.authority_certs.specs.Reading.{cert_of}
-use Rattle.authority_certs.specs.declared.cert.Cert.{Cert}
+use Rattle.authority_certs.specs.{Certs.{cert_in, whole_part}, Heads.head_of, Reading.cert_of, declared.cert.Cert.Cert}
 use Rattle.vote_frame.specs.Tables.{vote_tables}
 use Rattle.vote_frame.specs.declared.frame.VoteSection.TheVariants as section
 use Rattle.grammar_laws.specs.Moved.{moved_item}
-use Rattle.certificate_laws.specs.Given.{IsGiven}
-use Rattle.certificate_laws.specs.Lifted.{moved_taken}
-use Rattle.certificate_laws.specs.Within.{AreTakenIn}
+use Rattle.certificate_laws.specs.{Given.IsGiven, Lifted.moved_taken, Within.AreTakenIn}
 
 -- Of bytes that are given for a certificate: their items, and what is taken of them when they are read alone; it lies
 -- within them, says the certificate, and has all of them for its bytes. Wherever the bytes stand, in front of whatever

@@ -1,14 +1,10 @@
 -- What is taken of a certificate lies within its bytes.
-use Rattle.std.specs.Prelude.{◌≡◌, ℕ, ◌≤◌, ◌++◌, true, is_some, List, length, map}
-use Rattle.std.specs.List.{AllByRecursion}
+use Rattle.std.specs.{Prelude.{◌≡◌, ℕ, ◌≤◌, ◌++◌, true, is_some, List, length, map}, List.AllByRecursion}
 use Rattle.frame_terms.specs.declared.document.Taken.{Taken}
 use Rattle.frame_terms.specs.declared.keyword.Keyword.TheVariants as the
-use Rattle.frame_values.specs.Values.{item_at}
-use Rattle.frame_values.specs.declared.found.Span.{Span}
-use Rattle.frame_values.specs.declared.values.Value.{Value}
+use Rattle.frame_values.specs.{Values.item_at, declared.{found.Span.Span, values.Value.Value}}
 use Rattle.frame_values.specs.declared.values.Value.TheVariants as value
-use Rattle.authority_certs.specs.Certs.{cert_in, whole_part}
-use Rattle.authority_certs.specs.Heads.{head_of}
+use Rattle.authority_certs.specs.{Certs.{cert_in, whole_part}, Heads.head_of}
 use Rattle.certificate_laws.specs.Lifted.{moved_taken}
 
 -- a span ends within so many bytes

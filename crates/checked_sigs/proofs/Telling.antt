@@ -1,25 +1,19 @@
 -- What is told of some lines of detached signatures, and of one line more.
 use Rattle.std.proofs.Common.{◌≡◌, ℕ, ◌+◌, ◌<◌, ◌≤◌, Bool, true, false, not, Option, Some, None, List, [], ◌∷◌, ◌++◌}
 use Rattle.std.proofs.Common.{length, map, take, drop, get_or, Ok, Err, inl, inr, ⊎_elim, refl, sym, ap, subst, ◌∙◌}
-use Rattle.std.proofs.Common.{arith, length-append}
-use Rattle.std.specs.Prelude.{All, filter, is_none, if◌then◌else◌}
-use Rattle.std.specs.List.{cons_option, filter_map}
-use Rattle.std.proofs.lemmas.Bool.{cases_lt}
-use Rattle.std.proofs.lemmas.List.{append-nil, map_push}
-use Rattle.std.proofs.lemmas.List.Elements.{All-nil, All-push, filter-append, filter_map-append}
+use Rattle.std.proofs.{Common.{arith, length-append}, lemmas.{Bool.cases_lt, List.{append-nil, map_push}}}
+use Rattle.std.{proofs.lemmas.List.Elements.{All-nil, All-push, filter-append, filter_map-append}, specs.Prelude.All}
+use Rattle.std.specs.{Prelude.{filter, is_none, if◌then◌else◌}, List.{cons_option, filter_map}}
 use Rattle.key_port.specs.Answers.{Rules, Steps}
 use Rattle.key_port.specs.declared.verifier.VerifyAnswer.TheVariants as answer
 use Rattle.detached_sigs.proofs.Asking.{parted, taken}
-use Rattle.detached_doc.specs.declared.detached.Detached.{Detached}
-use Rattle.detached_doc.specs.declared.detached.DetachedLine.{DetachedLine}
-use Rattle.period_terms.specs.declared.signature.OfferedSignature.{OfferedSignature}
-use Rattle.period_terms.specs.declared.view.PeriodView.{PeriodView}
-use Rattle.checked_sigs.specs.Asking.{offered_by, offered_lines}
-use Rattle.checked_sigs.specs.declared.report.SigRefusal.{SigRefusal}
+use Rattle.detached_doc.specs.declared.detached.{Detached.Detached, DetachedLine.DetachedLine}
+use Rattle.period_terms.specs.declared.{signature.OfferedSignature.OfferedSignature, view.PeriodView.PeriodView}
+use Rattle.checked_sigs.specs.{Asking.{offered_by, offered_lines}, declared.report.SigRefusal.SigRefusal}
+use Rattle.checked_sigs.specs.Checks.{AddsLine, Asks, AsksEach, FailsAt, FailsAtLine, FailsLine, FailsLines, IsJudgedBy}
+use Rattle.checked_sigs.specs.Checks.{Judgement, Tally, TellsLines, answer_of, skipped_count, tally_of, with_bad}
+use Rattle.checked_sigs.specs.Checks.{with_checked, with_skipped}
 use Rattle.checked_sigs.specs.declared.report.SigRefusal.TheVariants as the
-use Rattle.checked_sigs.specs.Checks.{AddsLine, Asks, AsksEach, FailsAt, FailsAtLine, FailsLine, FailsLines}
-use Rattle.checked_sigs.specs.Checks.{IsJudgedBy, Judgement, Tally, TellsLines, answer_of}
-use Rattle.checked_sigs.specs.Checks.{skipped_count, tally_of, with_bad, with_checked, with_skipped}
 
 -- ---- what is asked
 

@@ -1,9 +1,7 @@
 -- The document of signatures over what is computed.
-use Rattle.std.proofs.Common.{◌≡◌, ◌∙◌, ap, ℕ, List, Option, Some}
-use Rattle.std.specs.Prelude.{option_map}
+use Rattle.std.{proofs.Common.{◌≡◌, ◌∙◌, ap, ℕ, List, Option, Some}, specs.Prelude.option_map}
 use Rattle.consensus_terms.specs.declared.consensus.Consensus.{Consensus}
-use Rattle.detached_doc.specs.declared.detached.Detached.{Detached}
-use Rattle.detached_doc.specs.Texts.{detached_text}
+use Rattle.detached_doc.specs.{declared.detached.Detached.Detached, Texts.detached_text}
 use Rattle.period_terms.specs.declared.state.State.{State}
 use Rattle.checked_sigs.specs.Next.{signatures_over, next_signatures_of}
 

@@ -1,19 +1,13 @@
 -- What a line of detached signatures is over, and by whose key (dir-spec, "Serving and fetching detached signatures").
 use Rattle.std.specs.Prelude.{ℕ, Bool, ◌==◌, ◌&&◌, List, length, codes, Option, Some, None, option_and_then, option_map}
-use Rattle.std.specs.Prelude.{if◌then◌else◌}
-use Rattle.std.specs.List.{filter_map, find}
-use Rattle.std.specs.Str.{bytes_eq}
-use Rattle.consensus_terms.specs.declared.flavour.Flavour.{Flavour}
-use Rattle.consensus_terms.specs.declared.flavour.Flavour.TheVariants.{Ns, Microdesc}
+use Rattle.std.specs.{Prelude.if◌then◌else◌, List.{filter_map, find}, Str.bytes_eq}
+use Rattle.consensus_terms.specs.declared.flavour.Flavour.{Flavour, TheVariants.{Ns, Microdesc}}
 use Rattle.consensus_terms.specs.declared.signature.SignatureLine.{SignatureLine}
-use Rattle.detached_doc.specs.declared.detached.AdditionalDigest.{AdditionalDigest}
-use Rattle.detached_doc.specs.declared.detached.Detached.{Detached}
+use Rattle.detached_doc.specs.declared.detached.{AdditionalDigest.AdditionalDigest, Detached.Detached}
 use Rattle.detached_doc.specs.declared.detached.DetachedLine.{DetachedLine}
-use Rattle.detached_sigs.specs.declared.key.SignerKey.{SignerKey}
-use Rattle.detached_sigs.specs.Signers.{is_line_of}
-use Rattle.period_terms.specs.declared.signature.OfferedSignature.{OfferedSignature}
+use Rattle.detached_sigs.specs.{declared.key.SignerKey.SignerKey, Signers.is_line_of}
+use Rattle.period_terms.specs.declared.{signature.OfferedSignature.OfferedSignature, view.PeriodView.PeriodView}
 use Rattle.period_terms.specs.Offered.{offered_signature}
-use Rattle.period_terms.specs.declared.view.PeriodView.{PeriodView}
 
 -- the flavour of these names of a flavour and an algorithm, where both are known: ns, which is not named, with SHA-1,
 -- and microdesc with SHA-256

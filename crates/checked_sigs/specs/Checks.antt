@@ -1,19 +1,14 @@
 -- What comes of checking detached signatures.
-use Rattle.std.specs.Prelude.{◌≡◌, ◌⊎◌, ◌+◌, ℕ, Bool, true, false, not, List, [], ◌∷◌, ◌++◌, length, map}
-use Rattle.std.specs.Prelude.{filter, All, Ok, Err, Option, None, Some, is_none, if◌then◌else◌}
+use Rattle.std.specs.Prelude.{◌≡◌, ◌⊎◌, ◌+◌, ℕ, Bool, true, false, not, List, [], ◌∷◌, ◌++◌, length, map, filter, All}
+use Rattle.std.specs.Prelude.{Ok, Err, Option, None, Some, is_none, if◌then◌else◌}
 use Rattle.frame_terms.specs.declared.fault.ReadRefusal.TheVariants.{Frame}
-use Rattle.key_port.specs.Answers.{Relation, Rules, Steps}
+use Rattle.key_port.specs.{Answers.{Relation, Rules, Steps}, declared.verifier.VerifyAnswer.VerifyAnswer}
 use Rattle.key_port.specs.declared.verifier.KeyKind.TheVariants as kind
-use Rattle.key_port.specs.declared.verifier.VerifyAnswer.{VerifyAnswer}
 use Rattle.key_port.specs.declared.verifier.VerifyAnswer.TheVariants as answer
-use Rattle.detached_doc.specs.declared.detached.Detached.{Detached}
-use Rattle.detached_doc.specs.declared.detached.DetachedLine.{DetachedLine}
-use Rattle.detached_doc.specs.Reading.{detached_of}
-use Rattle.period_terms.specs.declared.signature.OfferedSignature.{OfferedSignature}
-use Rattle.checked_sigs.specs.declared.report.SigRefusal.{SigRefusal}
+use Rattle.detached_doc.specs.{declared.detached.{Detached.Detached, DetachedLine.DetachedLine}, Reading.detached_of}
+use Rattle.period_terms.specs.declared.{signature.OfferedSignature.OfferedSignature, view.PeriodView.PeriodView}
+use Rattle.checked_sigs.specs.{declared.report.SigRefusal.SigRefusal, Asking.{offered_by, offered_lines}}
 use Rattle.checked_sigs.specs.declared.report.SigRefusal.TheVariants as refusal
-use Rattle.period_terms.specs.declared.view.PeriodView.{PeriodView}
-use Rattle.checked_sigs.specs.Asking.{offered_by, offered_lines}
 
 -- ---- what the verifier answers
 

@@ -1,12 +1,8 @@
 -- The detached signatures of what an authority has computed (dir-spec, "Serving and fetching detached signatures").
 use Rattle.std.specs.Prelude.{ℕ, List, Option, option_map}
-use Rattle.consensus_terms.specs.declared.consensus.Consensus.{Consensus}
-use Rattle.consensus_terms.specs.declared.flavour.Flavour.TheVariants.{Ns, Microdesc}
-use Rattle.detached_doc.specs.declared.detached.Detached.{Detached}
-use Rattle.detached_doc.specs.Held.{held_signatures}
-use Rattle.detached_doc.specs.Texts.{detached_text}
-use Rattle.period_terms.specs.declared.state.State.{State}
-use Rattle.period_terms.specs.States.{digest_of}
+use Rattle.consensus_terms.specs.declared.{consensus.Consensus.Consensus, flavour.Flavour.TheVariants.{Ns, Microdesc}}
+use Rattle.detached_doc.specs.{declared.detached.Detached.Detached, Held.held_signatures, Texts.detached_text}
+use Rattle.period_terms.specs.{declared.state.State.State, States.digest_of}
 
 -- the signatures over a consensus that an authority holds: its times, the digests of both flavours, and the lines of both
 abbrev pub signatures_over : State → Consensus → Detached

@@ -3,10 +3,9 @@ ghost use Rattle.std.specs.Prelude.{◌≡◌, ◌≤◌, ◌<◌, ◌^◌, Err,
 ghost use Rattle.sha1.specs.Sha1.{sha1};
 ghost use Rattle.dir_bytes.specs.Causes.{Rose};
 ghost use Rattle.key_port.specs.Answers.{rules};
-ghost use Rattle.period_terms.specs.Advances.{algorithm_of};
-ghost use Rattle.checked_sigs.specs.Asking.{offered_by};
-ghost use Rattle.period_terms.specs.Offered.{offered_signature as offer_of};
-ghost use Rattle.checked_sigs.specs.Checks.{AddsLine, ChecksAll, FailsLine, FailsLines, IsJudged, RefusedBy, TellsLines, tally_of};
+ghost use Rattle.period_terms.specs.{Advances.algorithm_of, Offered.offered_signature as offer_of};
+ghost use Rattle.checked_sigs.specs.{Asking.offered_by, Checks.{AddsLine, ChecksAll, FailsLine, FailsLines, IsJudged}};
+ghost use Rattle.checked_sigs.specs.Checks.{RefusedBy, TellsLines, tally_of};
 
 use crate::over::{digest_over, flavour_of, key_of};
 use crate::report::{SigRefusal, SigReport};

@@ -1,33 +1,24 @@
 -- An input that arrives: no vote ends, a vote ends, the input ends.
 use Rattle.std.proofs.Common.{◌≡◌, ◌∙◌, ℕ, ◌+◌, ◌-◌, ◌<◌, ◌≤◌, ◌^◌, List, [], ◌∷◌, ◌++◌, length, take, drop, Option}
-use Rattle.std.proofs.Common.{Some, None}
-use Rattle.std.proofs.Common.{Result, Ok, Err, refl, sym, ap, subst, arith, length-append, length-take, length-drop}
-use Rattle.std.proofs.Common.{append_assoc, append-nil}
-use Rattle.std.specs.Prelude.{◌==◌, Bool, false, true, nat_le}
-use Rattle.std.proofs.lemmas.Bool.{eqb-false, eqb-true, le-leb, leb-true}
-use Rattle.std.proofs.lemmas.List.{take_all, take-append-drop}
-use Rattle.frame_terms.specs.declared.fault.FrameFault.{FrameFault}
-use Rattle.frame_terms.specs.declared.fault.ReadRefusal.TheVariants.{Frame}
+use Rattle.std.proofs.Common.{Some, None, Result, Ok, Err, refl, sym, ap, subst, arith, length-append, length-take}
+use Rattle.std.proofs.{Common.{length-drop, append_assoc, append-nil}, lemmas.Bool.{eqb-false, eqb-true, le-leb}}
+use Rattle.std.{proofs.lemmas.{Bool.leb-true, List.{take_all, take-append-drop}}, specs.Prelude.{◌==◌, Bool, false}}
+use Rattle.std.specs.Prelude.{true, nat_le}
+use Rattle.frame_terms.specs.declared.fault.{FrameFault.FrameFault, ReadRefusal.TheVariants.Frame}
 use Rattle.key_port.specs.Answers.{Rules}
 use Rattle.vote_terms.specs.Votes.{ReadVote}
 use Rattle.vote_doc.specs.Holdings.{Holding}
-use Rattle.daemon_words.specs.declared.command.Compute.{Compute}
-use Rattle.daemon_words.specs.declared.command.Kind.TheVariants.{Vote}
-use Rattle.daemon_words.specs.declared.stop.Stop.{Stop}
+use Rattle.daemon_words.specs.declared.{command.{Compute.Compute, Kind.TheVariants.Vote}, stop.Stop.Stop}
 use Rattle.daemon_words.specs.declared.stop.Stop.TheVariants as stop
-use Rattle.compute_command.specs.declared.refusal.AcceptRefusal.{AcceptRefusal}
-use Rattle.compute_command.specs.declared.refusal.EndRefusal.{EndRefusal}
+use Rattle.compute_command.specs.declared.refusal.{AcceptRefusal.AcceptRefusal, EndRefusal.EndRefusal}
+use Rattle.compute_command.specs.declared.{arriving.Arriving.Arriving, checking.Checking.Checking, rest.Turn.Turn}
+use Rattle.compute_command.specs.Arriving.{BeginsBehind, EndsSo, HasArrived, IsArriving, TurnsTo, WithMore}
+use Rattle.compute_command.specs.{Checked.{CheckedSo, IsChecked, OneMoreChecked, end_by}, Rests.{AnswersEnd, HasRest}}
+use Rattle.compute_command.specs.{Rests.{IsRest, Takes, Turns, room_behind}, Votes.{most_votes, votes_of}}
+use Rattle.compute_command.proofs.NextVotes.{no_more, none_yet, one_vote_more, then_fault}
 use Rattle.compute_command.specs.declared.refusal.EndRefusal.TheVariants as end
 use Rattle.blank_lines.specs.Behind.{fault_behind}
-use Rattle.compute_command.specs.declared.arriving.Arriving.{Arriving}
-use Rattle.compute_command.specs.declared.checking.Checking.{Checking}
-use Rattle.compute_command.specs.declared.rest.Turn.{Turn}
 use Rattle.compute_command.specs.declared.rest.Turn.TheVariants as turn
-use Rattle.compute_command.specs.Arriving.{BeginsBehind, EndsSo, HasArrived, IsArriving, TurnsTo, WithMore}
-use Rattle.compute_command.specs.Checked.{CheckedSo, IsChecked, OneMoreChecked, end_by}
-use Rattle.compute_command.specs.Rests.{AnswersEnd, HasRest, IsRest, Takes, Turns, room_behind}
-use Rattle.compute_command.specs.Votes.{most_votes, votes_of}
-use Rattle.compute_command.proofs.NextVotes.{no_more, none_yet, one_vote_more, then_fault}
 
 -- whether there may be no vote more
 pub no_room : (full : Bool) (count : ℕ) → full ≡ nat_le most_votes count → full ≡ true → most_votes - count ≡ 0

@@ -1,30 +1,22 @@
 -- What the verifier is asked of the bytes of an input, by the votes that end in them.
-use Rattle.std.proofs.Common.{◌≡◌, ◌∙◌, ℕ, ◌+◌, ◌<◌, ◌^◌, List, [], ◌∷◌, ◌++◌, length, take, Option, Some, None}
-use Rattle.std.proofs.Common.{Ok, Err, refl, sym, ap, subst, arith, length-append, append_assoc, append-nil}
-use Rattle.std.specs.Prelude.{◌==◌, true}
-use Rattle.std.proofs.lemmas.Bool.{eqb-true}
-use Rattle.frame_terms.specs.declared.fault.FrameFault.{FrameFault}
-use Rattle.frame_terms.specs.declared.fault.ReadRefusal.{ReadRefusal}
-use Rattle.frame_terms.specs.declared.fault.ReadRefusal.TheVariants.{Frame}
+use Rattle.std.proofs.Common.{◌≡◌, ◌∙◌, ℕ, ◌+◌, ◌<◌, ◌^◌, List, [], ◌∷◌, ◌++◌, length, take, Option, Some, None, Ok}
+use Rattle.std.proofs.Common.{Err, refl, sym, ap, subst, arith, length-append, append_assoc, append-nil}
+use Rattle.std.{proofs.lemmas.Bool.eqb-true, specs.Prelude.{◌==◌, true}}
+use Rattle.frame_terms.specs.declared.fault.{FrameFault.FrameFault, ReadRefusal.{ReadRefusal, TheVariants.Frame}}
 use Rattle.key_port.specs.Answers.{Rules, Steps}
 use Rattle.vote_terms.specs.Votes.{ReadVote}
 use Rattle.blank_lines.specs.Behind.{refusal_behind}
 use Rattle.daemon_words.specs.declared.command.Compute.{Compute}
 use Rattle.vote_feed.specs.Feeding.{IsOpen}
-use Rattle.compute_command.specs.declared.arriving.Arriving.{Arriving}
-use Rattle.compute_command.specs.declared.checking.Checking.{Checking}
-use Rattle.compute_command.specs.declared.rest.Turn.TheVariants as turn
-use Rattle.compute_command.specs.declared.rest.Stage.{Stage}
-use Rattle.compute_command.specs.declared.rest.Stage.TheVariants as stage
-use Rattle.compute_command.specs.Arriving.{BeginsBehind}
-use Rattle.compute_command.specs.Asked.{AskedBefore, AsksArrived, AsksOfBytes, AsksVotes, AsksOneMore, BeginsNone}
-use Rattle.compute_command.specs.Checked.{OneMoreChecked}
-use Rattle.compute_command.specs.Rests.{AreVotes, HasFault, Knows, Read, Turns, next_by, next_of, room_behind, vote_if}
-use Rattle.compute_command.specs.Votes.{one_more_of, votes_of}
-use Rattle.compute_command.proofs.Arrivals.{no_vote_ends, nothing_left, vote_ended, vote_ends}
-use Rattle.compute_command.proofs.NextVotes.{no_more, votes_then}
-use Rattle.compute_command.proofs.Rests.{none_there, open_has_none, vote_there}
+use Rattle.compute_command.specs.declared.{arriving.Arriving.Arriving, checking.Checking.Checking, rest.Stage.Stage}
+use Rattle.compute_command.specs.{Arriving.BeginsBehind, Asked.{AskedBefore, AsksArrived, AsksOfBytes, AsksVotes}}
+use Rattle.compute_command.specs.{Asked.{AsksOneMore, BeginsNone}, Checked.OneMoreChecked, Rests.{AreVotes, HasFault}}
+use Rattle.compute_command.specs.{Rests.{Knows, Read, Turns, next_by, next_of, room_behind, vote_if}, Votes.one_more_of}
+use Rattle.compute_command.{specs.Votes.votes_of, proofs.Arrivals.{no_vote_ends, nothing_left, vote_ended, vote_ends}}
+use Rattle.compute_command.proofs.{NextVotes.{no_more, votes_then}, Rests.{none_there, open_has_none, vote_there}}
 use Rattle.compute_command.proofs.Turning.{ends_none}
+use Rattle.compute_command.specs.declared.rest.Turn.TheVariants as turn
+use Rattle.compute_command.specs.declared.rest.Stage.TheVariants as stage
 
 -- ---- no vote more
 

@@ -1,32 +1,21 @@
 -- What a reader gives first of the bytes behind the last vote that may be there.
-use Rattle.std.proofs.Common.{◌≡◌, ◌∙◌, ℕ, ◌+◌, Bool, true, false, List, [], ◌++◌, length, drop, Option, Some}
-use Rattle.std.proofs.Common.{None, refl, sym, ap, subst, arith}
-use Rattle.std.proofs.Common.{◌<◌, ◌≤◌, ◌^◌, append-nil, length-append, length-drop}
-use Rattle.std.specs.Option.{option_map}
-use Rattle.std.specs.Prelude.{IfSome, unwrap_or}
+use Rattle.std.proofs.Common.{◌≡◌, ◌∙◌, ℕ, ◌+◌, Bool, true, false, List, [], ◌++◌, length, drop, Option, Some, None}
+use Rattle.std.proofs.Common.{refl, sym, ap, subst, arith, ◌<◌, ◌≤◌, ◌^◌, append-nil, length-append, length-drop}
+use Rattle.std.specs.{Option.option_map, Prelude.{IfSome, unwrap_or}}
 use Rattle.item_terms.specs.Items as model
-use Rattle.item_terms.specs.Items.{Contents, contents, nothing}
-use Rattle.item_terms.specs.declared.fault.DocFault.{DocFault}
+use Rattle.item_terms.specs.{Items.{Contents, contents, nothing}, declared.fault.DocFault.DocFault}
 use Rattle.item_feeder.proofs.FaultPlaces.{fault_within}
-use Rattle.dirdoc_grammar.specs.declared.cursor.Cursor.{Cursor}
-use Rattle.dirdoc_grammar.specs.declared.take.Take.{Take}
-use Rattle.dirdoc_grammar.specs.declared.take.Take.TheVariants as taken
-use Rattle.dirdoc_grammar.specs.Cursors.{IsAt, fed_by}
-use Rattle.dirdoc_grammar.specs.Feeding.{IfItem, MayFollow, Takes, left_with}
-use Rattle.dirdoc_grammar.specs.Seen.{LiesInOrder, seen_item}
+use Rattle.dirdoc_grammar.specs.{declared.{cursor.Cursor.Cursor, take.Take.Take}, Cursors.{IsAt, fed_by}}
+use Rattle.dirdoc_grammar.specs.{Feeding.{IfItem, MayFollow, Takes, left_with}, Seen.{LiesInOrder, seen_item}}
 use Rattle.dirdoc_grammar.proofs.Cursors.{at_more}
-use Rattle.frame_terms.specs.Decisions.{beginning_reason}
-use Rattle.frame_terms.specs.Keywords.{word_of}
-use Rattle.frame_terms.specs.declared.fault.FrameFault.{FrameFault}
-use Rattle.frame_terms.specs.declared.fault.FrameReason.{FrameReason}
-use Rattle.frame_terms.specs.declared.fault.FrameReason.TheVariants.{TooMany}
-use Rattle.frame_terms.specs.declared.row.Limit.TheVariants.{Votes}
-use Rattle.frame_terms.specs.declared.fault.ReadRefusal.{ReadRefusal}
-use Rattle.frame_terms.specs.declared.fault.ReadRefusal.TheVariants.{Frame}
+use Rattle.dirdoc_grammar.specs.declared.take.Take.TheVariants as taken
+use Rattle.frame_terms.specs.{Decisions.beginning_reason, Keywords.word_of, declared.fault.FrameFault.FrameFault}
+use Rattle.frame_terms.specs.declared.fault.{FrameReason.{FrameReason, TheVariants.TooMany}, ReadRefusal.ReadRefusal}
+use Rattle.frame_terms.specs.declared.{fault.ReadRefusal.TheVariants.Frame, row.Limit.TheVariants.Votes}
 use Rattle.blank_lines.specs.Behind.{fault_behind}
 use Rattle.vote_frame.specs.Tables.{vote_tables}
-use Rattle.compute_command.specs.Beyonds.{EndsBeyond, ReadsFront, fault_of}
-use Rattle.compute_command.specs.Votes.{by_first, item_too_many, one_more_of}
+use Rattle.compute_command.specs.{Beyonds.{EndsBeyond, ReadsFront, fault_of}, Votes.{by_first, item_too_many}}
+use Rattle.compute_command.specs.Votes.{one_more_of}
 
 -- why there is one more, by what the bytes hold
 abbrev by_contents : Contents → Option ReadRefusal

@@ -1,36 +1,24 @@
 -- Votes that are checked as they come.
-use Rattle.std.proofs.Common.{◌≡◌, ◌∙◌, ℕ, zero, suc, ◌+◌, ◌<◌, ◌≤◌, List, [], ◌∷◌, ◌++◌, length, take}
-use Rattle.std.proofs.Common.{Option, Some, None}
-use Rattle.std.proofs.Common.{refl, sym, ap, subst, arith, length-append, ⊎_elim}
-use Rattle.std.specs.Prelude.{All, true, false, is_some, slice_get}
-use Rattle.std.proofs.lemmas.Bool.{cases_lt}
-use Rattle.std.proofs.lemmas.List.{get_or_push, take-append-le, take_all}
-use Rattle.std.proofs.lemmas.List.Elements.{All-push}
-use Rattle.std.proofs.lemmas.List.Sums.{fold-append}
-use Rattle.std.proofs.lemmas.Option.{slice_get_within}
+use Rattle.std.proofs.Common.{◌≡◌, ◌∙◌, ℕ, zero, suc, ◌+◌, ◌<◌, ◌≤◌, List, [], ◌∷◌, ◌++◌, length, take, Option, Some}
+use Rattle.std.proofs.{Common.{None, refl, sym, ap, subst, arith, length-append, ⊎_elim}, lemmas.Bool.cases_lt}
+use Rattle.std.proofs.lemmas.List.{get_or_push, take-append-le, take_all, Elements.All-push, Sums.fold-append}
+use Rattle.std.{proofs.lemmas.Option.slice_get_within, specs.Prelude.{All, true, false, is_some, slice_get}}
 use Rattle.dir_bytes.specs.Causes.{Rose}
 use Rattle.dir_values.specs.declared.digest.Fingerprint.{Fingerprint}
 use Rattle.key_port.specs.Answers.{Rules}
-use Rattle.vote_terms.specs.Votes.{ReadVote}
-use Rattle.vote_terms.specs.Held.{held, votes_with}
-use Rattle.vote_terms.specs.Acceptable.{AsksOf, IsAcceptable, IsFirstRefused, IsReached}
-use Rattle.vote_terms.specs.declared.word.VoteWord.{VoteWord}
-use Rattle.vote_doc.specs.Checks.{RefusedBy}
-use Rattle.vote_doc.specs.Holdings.{Holding}
-use Rattle.authority_certs.specs.declared.checking.CertAnswer.TheVariants as answer
-use Rattle.vote_doc.specs.declared.check.VoteRefusal.{VoteRefusal}
+use Rattle.vote_terms.specs.{Votes.ReadVote, Held.{held, votes_with}, Acceptable.{AsksOf, IsAcceptable, IsFirstRefused}}
+use Rattle.vote_terms.specs.{Acceptable.IsReached, declared.word.VoteWord.VoteWord}
+use Rattle.vote_doc.specs.{Checks.RefusedBy, Holdings.Holding, declared.check.VoteRefusal.VoteRefusal}
 use Rattle.vote_doc.specs.declared.check.VoteRefusal.TheVariants.{WrongPeriod, UnknownAuthority, Cert, BadSignature}
 use Rattle.vote_doc.specs.declared.check.VoteRefusal.TheVariants.{VerifierFault}
+use Rattle.authority_certs.specs.declared.checking.CertAnswer.TheVariants as answer
 use Rattle.vote_doc.proofs.Placing as placing
 use Rattle.daemon_words.specs.declared.command.Compute.{Compute}
 use Rattle.daemon_words.specs.declared.stop.Stop.TheVariants as stop
-use Rattle.compute_command.specs.declared.refusal.AcceptRefusal.{AcceptRefusal}
+use Rattle.compute_command.specs.declared.{refusal.AcceptRefusal.AcceptRefusal, checking.Checking.Checking}
+use Rattle.compute_command.specs.{Accepting.{StopsAt, refusal_of}, Checked.{CheckedSo, IsChecked, TellsFirst}}
+use Rattle.compute_command.{specs.Votes.most_votes, proofs.Refusing.stops_at}
 use Rattle.compute_command.specs.declared.refusal.AcceptRefusal.TheVariants as refusal
-use Rattle.compute_command.specs.declared.checking.Checking.{Checking}
-use Rattle.compute_command.specs.Accepting.{StopsAt, refusal_of}
-use Rattle.compute_command.specs.Checked.{CheckedSo, IsChecked, TellsFirst}
-use Rattle.compute_command.specs.Votes.{most_votes}
-use Rattle.compute_command.proofs.Refusing.{stops_at}
 
 -- what stands in front stands there too where more come
 slice_get_front : (votes more : List ReadVote) (k : ℕ) → k < length votes → slice_get (votes ++ more) k ≡ slice_get votes k

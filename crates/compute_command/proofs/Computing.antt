@@ -1,18 +1,14 @@
 -- The text that was written is that of the consensus of the held votes.
-use Rattle.std.proofs.Common.{◌≡◌, ℕ, true, List, length, Ok, Err, refl, sym, ap, ◌∙◌}
-use Rattle.std.specs.Prelude.{All}
+use Rattle.std.{proofs.Common.{◌≡◌, ℕ, true, List, length, Ok, Err, refl, sym, ap, ◌∙◌}, specs.Prelude.All}
 use Rattle.std.specs.Global.{Vec}
 use Rattle.key_port.specs.Answers.{Rules}
-use Rattle.vote_terms.specs.Votes.{ReadVote}
+use Rattle.vote_terms.specs.{Votes.ReadVote, Held.held, Acceptable.IsAcceptable}
 use Rattle.count_terms.specs.Counts.{over}
-use Rattle.vote_terms.specs.Held.{held}
-use Rattle.vote_terms.specs.Acceptable.{IsAcceptable}
 use Rattle.compute_terms.specs.Consensuses.{consensus}
 use Rattle.consensus_terms.specs.declared.consensus.Consensus.{Consensus}
 use Rattle.daemon_words.specs.declared.command.Compute.{Compute}
 use Rattle.consensus_calc.specs.declared.record.CalcFault.TheVariants as calc
-use Rattle.compute_command.specs.Votes.{votes_of}
-use Rattle.compute_command.specs.Answers.{ComputeAnswers, Computes, HasTooFew, texts_of}
+use Rattle.compute_command.specs.{Votes.votes_of, Answers.{ComputeAnswers, Computes, HasTooFew, texts_of}}
 use Rattle.compute_command.specs.Private.{WritesText}
 
 pub computes : (rules : Rules) (wanted : Compute) (bytes text : List ℕ) (votes now : List ReadVote) (roster : ℕ)

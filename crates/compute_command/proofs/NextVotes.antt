@@ -1,19 +1,15 @@
 -- The votes of an input, by what stands behind those that were read.
-use Rattle.std.proofs.Common.{◌≡◌, ◌∙◌, ℕ, zero, suc, ◌+◌, ◌-◌, ◌<◌, ◌^◌, List, [], ◌∷◌, ◌++◌, length, Option}
-use Rattle.std.proofs.Common.{Some, None}
-use Rattle.std.proofs.Common.{Result, Ok, Err, refl, sym, ap, subst, arith, length-append, append_assoc, append-nil}
-use Rattle.std.specs.Option.{option_map}
-use Rattle.std.proofs.Math.Seq.{drop-append_seam}
-use Rattle.frame_terms.specs.declared.fault.FrameFault.{FrameFault}
-use Rattle.frame_terms.specs.declared.fault.ReadRefusal.{ReadRefusal}
-use Rattle.frame_terms.specs.declared.fault.ReadRefusal.TheVariants.{Frame}
+use Rattle.std.proofs.Common.{◌≡◌, ◌∙◌, ℕ, zero, suc, ◌+◌, ◌-◌, ◌<◌, ◌^◌, List, [], ◌∷◌, ◌++◌, length, Option, Some}
+use Rattle.std.proofs.Common.{None, Result, Ok, Err, refl, sym, ap, subst, arith, length-append, append_assoc}
+use Rattle.std.{proofs.{Common.append-nil, Math.Seq.drop-append_seam}, specs.Option.option_map}
+use Rattle.frame_terms.specs.declared.fault.{FrameFault.FrameFault, ReadRefusal.{ReadRefusal, TheVariants.Frame}}
 use Rattle.vote_terms.specs.Votes.{ReadVote}
 use Rattle.vote_doc.specs.Reading.{vote_from, vote_of}
 use Rattle.blank_lines.specs.Behind.{behind, fault_behind, refusal_behind}
 use Rattle.vote_feed.proofs.WholeVotes.{votes_same}
-use Rattle.compute_command.specs.Rests.{AreVotes, EndsVote, Read, next_by, next_of, room_behind}
-use Rattle.compute_command.specs.Votes.{one_more, one_more_of, then_votes, unless_end}
-use Rattle.compute_command.specs.Votes.{unless_more, votes_from, votes_of, with_front}
+use Rattle.compute_command.specs.{Rests.{AreVotes, EndsVote, Read, next_by, next_of, room_behind}, Votes.one_more}
+use Rattle.compute_command.specs.Votes.{one_more_of, then_votes, unless_end, unless_more, votes_from, votes_of}
+use Rattle.compute_command.specs.Votes.{with_front}
 
 -- ---- votes in front
 

@@ -1,20 +1,16 @@
 -- Acceptable votes of more than half of the roster are not refused.
 use Rattle.std.proofs.Common.{◌≡◌, ◌∙◌, ℕ, Bool, true, false, ⊎_elim, List, sym, subst, refl, arith, Some, Err}
+use Rattle.std.proofs.lemmas.{Option.{slice_get_within, get_or_from_slice_get}, Bool.{false≢true, Decides.nat_tests}}
 use Rattle.std.specs.Prelude.{All, slice_get, ◌&&◌}
-use Rattle.std.proofs.lemmas.Option.{slice_get_within, get_or_from_slice_get}
-use Rattle.std.proofs.lemmas.Bool.{false≢true}
-use Rattle.std.proofs.lemmas.Bool.Decides.{nat_tests}
 use Rattle.dir_values.specs.declared.digest.Fingerprint.{Fingerprint}
 use Rattle.key_port.specs.Answers.{Rules}
-use Rattle.vote_terms.specs.Votes.{ReadVote}
-use Rattle.vote_terms.specs.Acceptable.{IsAcceptable, Refuses, RefusesNone}
+use Rattle.vote_terms.specs.{Votes.ReadVote, Acceptable.{IsAcceptable, Refuses, RefusesNone}}
 use Rattle.vote_terms.specs.declared.word.VoteWord.{VoteWord}
 use Rattle.vote_terms.specs.declared.word.VoteWord.TheVariants as word
 use Rattle.daemon_words.specs.declared.command.Compute.{Compute}
-use Rattle.compute_command.specs.declared.refusal.ComputeRefusal.{ComputeRefusal}
+use Rattle.compute_command.specs.{declared.refusal.ComputeRefusal.ComputeRefusal, Answers.{CanCompute, ComputeAnswers}}
 use Rattle.compute_command.specs.declared.refusal.ComputeRefusal.TheVariants as refusal
 use Rattle.compute_command.specs.declared.refusal.VoteListRefusal.TheVariants as list
-use Rattle.compute_command.specs.Answers.{CanCompute, ComputeAnswers}
 
 -- what holds of each element holds of one that stands there
 pub at : {X : Type 0} (P : X → Type 0) (xs : List X) (i : ℕ) (x : X) → All P xs → slice_get xs i ≡ Some x → P x

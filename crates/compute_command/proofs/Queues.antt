@@ -1,12 +1,8 @@
 -- Votes taken off the front of a list.
-use Rattle.std.proofs.Common.{◌≡◌, ℕ, ◌+◌, ◌<◌, List, length, get_or, take, drop, ap, sym, ◌∙◌, subst, arith, length-drop, add-zero}
-use Rattle.std.specs.Prelude.{All}
-use Rattle.std.specs.List.{remove}
-use Rattle.std.proofs.lemmas.List.{drop-drop, get_or-drop}
-use Rattle.std.proofs.lemmas.List.Elements.{All-more}
-use Rattle.std.proofs.lemmas.List.Sums.{fold_more}
-use Rattle.vote_terms.specs.Votes.{ReadVote}
-use Rattle.vote_terms.specs.Held.{held, votes_with}
+use Rattle.std.proofs.Common.{◌≡◌, ℕ, ◌+◌, ◌<◌, List, length, get_or, take, drop, ap, sym, ◌∙◌, subst, arith}
+use Rattle.std.proofs.{Common.{length-drop, add-zero}, lemmas.List.{drop-drop, get_or-drop, Elements.All-more}}
+use Rattle.std.{proofs.lemmas.List.Sums.fold_more, specs.{Prelude.All, List.remove}}
+use Rattle.vote_terms.specs.{Votes.ReadVote, Held.{held, votes_with}}
 
 pub within : (all left : List ReadVote) (n : ℕ) → left ≡ drop n all → 0 < length left → n < length all
 within all left n e some = let e' : length left ≡ length (drop n all) = ap (λ (l : List ReadVote). length l) e in omega (arith, length-drop n all, e')

@@ -1,16 +1,13 @@
 -- The vote at which checking stops is the first that is not acceptable, or the verifier failed at it.
-use Rattle.std.proofs.Common.{◌≡◌, ℕ, ◌+◌, ◌<◌, List, length, take, get_or, refl}
+use Rattle.std.proofs.{Common.{◌≡◌, ℕ, ◌+◌, ◌<◌, List, length, take, get_or, refl}, lemmas.Option.slice_get_read}
 use Rattle.std.specs.Prelude.{All}
-use Rattle.std.proofs.lemmas.Option.{slice_get_read}
 use Rattle.dir_values.specs.declared.digest.Fingerprint.{Fingerprint}
 use Rattle.key_port.specs.Answers.{Rules}
 use Rattle.authority_certs.specs.declared.checking.CertAnswer.TheVariants as answer
-use Rattle.vote_terms.specs.Votes.{ReadVote}
-use Rattle.vote_terms.specs.Acceptable.{IsAcceptable, IsReached, IsFirstRefused, Refuses}
+use Rattle.vote_terms.specs.{Votes.ReadVote, Acceptable.{IsAcceptable, IsReached, IsFirstRefused, Refuses}}
 use Rattle.vote_terms.specs.declared.word.VoteWord.{VoteWord}
-use Rattle.vote_doc.specs.Checks.{RefusedBy}
-use Rattle.vote_doc.specs.declared.check.VoteRefusal.{VoteRefusal}
-use Rattle.vote_doc.specs.declared.check.VoteRefusal.TheVariants.{WrongPeriod, UnknownAuthority, Cert, BadSignature, VerifierFault}
+use Rattle.vote_doc.specs.{Checks.RefusedBy, declared.check.VoteRefusal.{VoteRefusal, TheVariants.WrongPeriod}}
+use Rattle.vote_doc.specs.declared.check.VoteRefusal.TheVariants.{UnknownAuthority, Cert, BadSignature, VerifierFault}
 use Rattle.daemon_words.specs.declared.command.Compute.{Compute}
 use Rattle.compute_command.specs.Accepting.{StopsAt, refusal_of}
 use Rattle.daemon_words.specs.declared.stop.Stop.TheVariants as stop

@@ -1,21 +1,14 @@
 -- What is known of the bytes behind some votes, whatever follows.
-use Rattle.std.proofs.Common.{◌≡◌, ◌∙◌, ℕ, zero, suc, ◌+◌, ◌<◌, ◌^◌, List, ◌++◌, length}
-use Rattle.std.proofs.Common.{Option, Some, None, Ok, Err, refl, ap, subst, arith}
-use Rattle.std.proofs.Common.{append_assoc}
+use Rattle.std.proofs.Common.{◌≡◌, ◌∙◌, ℕ, zero, suc, ◌+◌, ◌<◌, ◌^◌, List, ◌++◌, length, Option, Some, None, Ok, Err}
+use Rattle.std.proofs.Common.{refl, ap, subst, arith, append_assoc}
 use Rattle.item_terms.specs.Items.{items_from, no_limit}
-use Rattle.frame_terms.specs.declared.fault.FrameFault.{FrameFault}
-use Rattle.frame_terms.specs.declared.fault.ReadRefusal.{ReadRefusal}
-use Rattle.frame_terms.specs.declared.fault.ReadRefusal.TheVariants.{Frame}
+use Rattle.frame_terms.specs.declared.fault.{FrameFault.FrameFault, ReadRefusal.{ReadRefusal, TheVariants.Frame}}
 use Rattle.vote_terms.specs.Votes.{ReadVote}
 use Rattle.vote_doc.specs.Reading.{vote_of}
-use Rattle.vote_feed.specs.Feeding.{IsFaulty, IsOpen, IsWhole}
-use Rattle.vote_feed.proofs.WholeVotes.{faulty_stay, whole_stay}
-use Rattle.vote_feed.proofs.BlankVotes.{blank_are_none}
-use Rattle.vote_feed.proofs.EndedVotes.{open_are_none}
-use Rattle.compute_command.specs.Beyonds.{HasTooMany}
-use Rattle.compute_command.specs.Rests.{EndsVote, HasFault, HasNoVote, Read, next_by, next_of, vote_if}
-use Rattle.compute_command.specs.Votes.{one_more_of}
-use Rattle.compute_command.proofs.TailEnds.{none_by, no_fault_by}
+use Rattle.vote_feed.{specs.Feeding.{IsFaulty, IsOpen, IsWhole}, proofs.WholeVotes.{faulty_stay, whole_stay}}
+use Rattle.vote_feed.proofs.{BlankVotes.blank_are_none, EndedVotes.open_are_none}
+use Rattle.compute_command.specs.{Beyonds.HasTooMany, Rests.{EndsVote, HasFault, HasNoVote, Read, next_by, next_of}}
+use Rattle.compute_command.{specs.{Rests.vote_if, Votes.one_more_of}, proofs.TailEnds.{none_by, no_fault_by}}
 
 -- where there may be one more, what stands there is a vote or its refusal
 pub vote_there : (room : ℕ) (refusal : ReadRefusal) (bytes : List ℕ) → 0 < room → vote_if room refusal bytes ≡ vote_of bytes

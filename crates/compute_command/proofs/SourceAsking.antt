@@ -1,23 +1,17 @@
 -- What the verifier was asked of what a source gave, by how the command ends.
-use Rattle.std.proofs.Common.{◌≡◌, ℕ, List, Option, None, Ok, Err}
-use Rattle.std.specs.Global.{Vec}
-use Rattle.std.specs.Io.KnownBytes.{Consumes}
+use Rattle.std.{proofs.Common.{◌≡◌, ℕ, List, Option, None, Ok, Err}, specs.{Global.Vec, Io.KnownBytes.Consumes}}
 use Rattle.dir_bytes.proofs.Appending.{consumes_more}
 use Rattle.key_port.specs.Answers.{Rules, Steps}
-use Rattle.daemon_words.specs.declared.command.Compute.{Compute}
+use Rattle.daemon_words.specs.declared.{command.Compute.Compute, stop.Stop.Stop}
 use Rattle.consensus_calc.specs.declared.record.CalcFault.{CalcFault}
 use Rattle.consensus_calc.specs.declared.record.CalcFault.TheVariants as calc
-use Rattle.daemon_words.specs.declared.stop.Stop.{Stop}
 use Rattle.daemon_words.specs.declared.stop.Stop.TheVariants as stop
-use Rattle.compute_command.specs.declared.refusal.AcceptRefusal.{AcceptRefusal}
+use Rattle.compute_command.specs.declared.refusal.{AcceptRefusal.AcceptRefusal, EndRefusal.EndRefusal}
+use Rattle.compute_command.specs.{declared.arriving.Arriving.Arriving, Arriving.TellsEnd, Asked.{AsksFrom, AsksOfBytes}}
+use Rattle.compute_command.specs.{Asked.AsksReading, Told.{of_calc, of_end}}
 use Rattle.compute_command.specs.declared.refusal.AcceptRefusal.TheVariants as accept
-use Rattle.compute_command.specs.declared.refusal.EndRefusal.{EndRefusal}
 use Rattle.compute_command.specs.declared.refusal.EndRefusal.TheVariants as end
-use Rattle.compute_command.specs.declared.arriving.Arriving.{Arriving}
 use Rattle.compute_command.specs.declared.halt.Halt.TheVariants as halt
-use Rattle.compute_command.specs.Arriving.{TellsEnd}
-use Rattle.compute_command.specs.Asked.{AsksFrom, AsksOfBytes, AsksReading}
-use Rattle.compute_command.specs.Told.{of_calc, of_end}
 
 module _ {V : Type 0} (steps : Steps V) (rules : Rules) (wanted : Compute) (left after : Option (List ℕ)) (old new : V) where
   -- there are more than the limit, and the last piece was not looked at

@@ -1,35 +1,24 @@
 -- The command over a source: what was read of it, and what it answers then.
-use Rattle.std.proofs.Common.{◌≡◌, ◌∙◌, ℕ, ◌+◌, ◌<◌, ◌≤◌, ◌^◌, List, [], ◌++◌, length, Option, Some, None}
-use Rattle.std.proofs.Common.{Result, Ok, Err}
-use Rattle.std.proofs.Common.{refl, sym, ap, subst, inl, inr, arith, length-append}
-use Rattle.std.specs.Global.{Vec}
+use Rattle.std.proofs.Common.{◌≡◌, ◌∙◌, ℕ, ◌+◌, ◌<◌, ◌≤◌, ◌^◌, List, [], ◌++◌, length, Option, Some, None, Result, Ok}
+use Rattle.std.{proofs.Common.{Err, refl, sym, ap, subst, inl, inr, arith, length-append}, specs.Global.Vec}
 use Rattle.std.specs.Io.KnownBytes.{Consumes, Keeps}
-use Rattle.dir_bytes.specs.Causes.{Rose}
-use Rattle.dir_bytes.specs.Streams.{TakesAtMost}
-use Rattle.dir_bytes.proofs.Appending.{consumes_more}
+use Rattle.dir_bytes.{specs.{Causes.Rose, Streams.TakesAtMost}, proofs.Appending.consumes_more}
 use Rattle.key_port.specs.Answers.{Rules}
 use Rattle.vote_doc.specs.Holdings.{Holding}
-use Rattle.daemon_words.specs.declared.command.Compute.{Compute}
+use Rattle.daemon_words.specs.declared.{command.Compute.Compute, stop.Stop.Stop}
 use Rattle.consensus_calc.specs.declared.record.CalcFault.{CalcFault}
 use Rattle.consensus_calc.specs.declared.record.CalcFault.TheVariants as calc
-use Rattle.daemon_words.specs.declared.stop.Stop.{Stop}
 use Rattle.daemon_words.specs.declared.stop.Stop.TheVariants as stop
-use Rattle.compute_command.specs.declared.refusal.AcceptRefusal.{AcceptRefusal}
+use Rattle.compute_command.specs.declared.refusal.{AcceptRefusal.AcceptRefusal, ComputeRefusal.ComputeRefusal}
+use Rattle.compute_command.specs.declared.{refusal.EndRefusal.EndRefusal, arriving.Arriving.Arriving}
+use Rattle.compute_command.specs.{Answers.ComputeAnswers, Arriving.{ComputesFrom, EndsAll, EndsSo, HasReadVotes}}
+use Rattle.compute_command.specs.{Arriving.{HasWhole, TellsEnd, TellsVerifier}, Checked.TellsFirst, Private.WritesText}
+use Rattle.compute_command.{specs.Told.{by_accept, by_end, of_calc, of_end}, proofs.Computing.{text_answers, too_few}}
 use Rattle.compute_command.specs.declared.refusal.AcceptRefusal.TheVariants as accept
-use Rattle.compute_command.specs.declared.refusal.ComputeRefusal.{ComputeRefusal}
 use Rattle.compute_command.specs.declared.refusal.ComputeRefusal.TheVariants as refusal
-use Rattle.compute_command.specs.declared.refusal.EndRefusal.{EndRefusal}
 use Rattle.compute_command.specs.declared.refusal.EndRefusal.TheVariants as end
 use Rattle.compute_command.specs.declared.refusal.VoteListRefusal.TheVariants as list
-use Rattle.compute_command.specs.declared.arriving.Arriving.{Arriving}
 use Rattle.compute_command.specs.declared.halt.Halt.TheVariants as halt
-use Rattle.compute_command.specs.Answers.{ComputeAnswers}
-use Rattle.compute_command.specs.Arriving.{ComputesFrom, EndsAll, EndsSo, HasReadVotes, HasWhole}
-use Rattle.compute_command.specs.Arriving.{TellsEnd, TellsVerifier}
-use Rattle.compute_command.specs.Checked.{TellsFirst}
-use Rattle.compute_command.specs.Private.{WritesText}
-use Rattle.compute_command.specs.Told.{by_accept, by_end, of_calc, of_end}
-use Rattle.compute_command.proofs.Computing.{text_answers, too_few}
 
 -- ---- pieces of a source
 

@@ -2,15 +2,11 @@
 use Rattle.std.proofs.Common.{◌≡◌, ◌∙◌, ℕ, ◌<◌, ◌^◌, Bool, false, List, length, Some, sym, ap, subst}
 use Rattle.frame_terms.specs.declared.fault.FrameFault.{FrameFault}
 use Rattle.vote_feed.specs.Feeding.{IsOpen}
-use Rattle.compute_command.specs.declared.rest.Rest.{Rest}
-use Rattle.compute_command.specs.declared.rest.Stage.{Stage}
+use Rattle.compute_command.specs.declared.{rest.{Rest.Rest, Stage.Stage, Turn.Turn}, tail.Tail.Tail}
+use Rattle.compute_command.specs.{Furthers.IsFurther, Rests.{AnswersEnd, HasRest, IsFaultOf, IsRest, Knows, Turns}}
+use Rattle.compute_command.{specs.{Rests.turn_on, Tails.{is_end, tail_of}}, proofs.Turning.{ends_faulted, ends_open}}
+use Rattle.compute_command.proofs.Turning.{faulted_turns}
 use Rattle.compute_command.specs.declared.rest.Stage.TheVariants as stage
-use Rattle.compute_command.specs.declared.rest.Turn.{Turn}
-use Rattle.compute_command.specs.declared.tail.Tail.{Tail}
-use Rattle.compute_command.specs.Furthers.{IsFurther}
-use Rattle.compute_command.specs.Rests.{AnswersEnd, HasRest, IsFaultOf, IsRest, Knows, Turns, turn_on}
-use Rattle.compute_command.specs.Tails.{is_end, tail_of}
-use Rattle.compute_command.proofs.Turning.{ends_faulted, ends_open, faulted_turns}
 
 -- whether the bytes are blank lines, as it was found
 pub end_found : (bytes : List ℕ) (tail : Tail) (found is : Bool) → tail ≡ tail_of bytes → found ≡ is_end tail → found ≡ is

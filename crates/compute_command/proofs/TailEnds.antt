@@ -1,24 +1,17 @@
 -- Bytes that are blank lines alone are the end of an input, and no others are.
 use Rattle.std.proofs.Common.{◌≡◌, ◌∙◌, ℕ, ◌+◌, ◌-◌, ◌<◌, ◌≤◌, ◌^◌, min, Bool, true, false, List, [], ◌∷◌, length, drop}
-use Rattle.std.proofs.Common.{Option, Some, None, refl, sym, ap, subst, arith}
-use Rattle.std.specs.Prelude.{◌==◌, ◌&&◌, nat_le, nat_lt, not, if◌then◌else◌}
-use Rattle.std.specs.List.{list_all, prefix_len}
-use Rattle.std.proofs.lemmas.Bool.{and_parts, le-leb, le-ltb, leb-true, ne_eqb}
-use Rattle.item_terms.specs.Faults.{at, max_line, nul_fault, or_else, too_long, unterminated_fault}
-use Rattle.item_terms.specs.Items.{Contents, Item, items_from, no_limit}
-use Rattle.item_terms.specs.Lines.{Line, lines, size}
-use Rattle.item_terms.specs.Words.{is_blank, is_blank_line, nul_in}
-use Rattle.item_terms.specs.declared.fault.DocFault.{DocFault}
+use Rattle.std.proofs.{Common.{Option, Some, None, refl, sym, ap, subst, arith}, lemmas.Bool.{and_parts, le-leb}}
+use Rattle.std.{proofs.lemmas.Bool.{le-ltb, leb-true, ne_eqb}, specs.Prelude.{◌==◌, ◌&&◌, nat_le, nat_lt, not}}
+use Rattle.std.specs.{Prelude.if◌then◌else◌, List.{list_all, prefix_len}}
+use Rattle.item_terms.specs.{Faults.{at, max_line, nul_fault, or_else, too_long, unterminated_fault}, Items.Contents}
+use Rattle.item_terms.specs.{Items.{Item, items_from, no_limit}, Lines.{Line, lines, size}, Words.is_blank}
+use Rattle.item_terms.specs.{Words.{is_blank_line, nul_in}, declared.fault.DocFault.DocFault}
 use Rattle.item_terms.specs.declared.fault.DocReason.TheVariants.{DocumentTooLong, LineTooLong, Unterminated}
-use Rattle.grammar_laws.specs.Blocks.{AreBlankLines, AreLinesOfItems, IsBlankLine}
-use Rattle.grammar_laws.proofs.BlockFronts.{items_are_there}
-use Rattle.grammar_laws.proofs.BlockReading.{no_others_are}
-use Rattle.grammar_laws.specs.Moved.{sizes}
-use Rattle.grammar_laws.proofs.LinesTogether.{sizes_all}
+use Rattle.grammar_laws.specs.{Blocks.{AreBlankLines, AreLinesOfItems, IsBlankLine}, Moved.sizes}
+use Rattle.grammar_laws.proofs.{BlockFronts.items_are_there, BlockReading.no_others_are, LinesTogether.sizes_all}
 use Rattle.frame_terms.specs.declared.fault.ReadRefusal.{ReadRefusal}
-use Rattle.compute_command.specs.Tails.{is_end, tail_of}
-use Rattle.compute_command.specs.Votes.{by_first, one_more_of}
-use Rattle.compute_command.proofs.TailLines.{all_blank, blank_line, tail_says}
+use Rattle.compute_command.{specs.{Tails.{is_end, tail_of}, Votes.{by_first, one_more_of}}, proofs.TailLines.all_blank}
+use Rattle.compute_command.proofs.TailLines.{blank_line, tail_says}
 
 -- ---- a line
 

@@ -1,14 +1,10 @@
 -- Which bytes are blank lines alone, of which none is longer than a line may be.
-use Rattle.std.proofs.Common.{◌≡◌, ◌∙◌, ℕ, ◌+◌, ◌<◌, ◌≤◌, Bool, true, false, List, [], ◌∷◌, refl, sym}
-use Rattle.std.proofs.Common.{ap, arith}
-use Rattle.std.specs.Prelude.{◌==◌, ◌&&◌, nat_le, nat_lt, if◌then◌else◌}
-use Rattle.std.specs.List.{fold, list_all}
-use Rattle.std.proofs.lemmas.Bool.{le-leb, lt-leb, ltb-true, ltb-false, ne_eqb}
-use Rattle.item_terms.specs.Faults.{max_line}
-use Rattle.item_terms.specs.Lines.{Line, lines, onto, size}
-use Rattle.item_terms.specs.Words.{is_blank, is_blank_line}
-use Rattle.compute_command.specs.declared.tail.Tail.TheVariants.{Blank, Other}
-use Rattle.compute_command.specs.Tails.{is_end, most_blanks, tail_of, tail_with}
+use Rattle.std.proofs.Common.{◌≡◌, ◌∙◌, ℕ, ◌+◌, ◌<◌, ◌≤◌, Bool, true, false, List, [], ◌∷◌, refl, sym, ap, arith}
+use Rattle.std.{proofs.lemmas.Bool.{le-leb, lt-leb, ltb-true, ltb-false, ne_eqb}, specs.Prelude.{◌==◌, ◌&&◌, nat_le}}
+use Rattle.std.specs.{Prelude.{nat_lt, if◌then◌else◌}, List.{fold, list_all}}
+use Rattle.item_terms.specs.{Faults.max_line, Lines.{Line, lines, onto, size}, Words.{is_blank, is_blank_line}}
+use Rattle.compute_command.specs.{declared.tail.Tail.TheVariants.{Blank, Other}, Tails.{is_end, most_blanks, tail_of}}
+use Rattle.compute_command.specs.Tails.{tail_with}
 
 -- whether a line is blank, that has so many blanks more in front
 abbrev pub blank_line : ℕ → Line → Bool

@@ -1,41 +1,23 @@
 -- What comes of more bytes behind some votes.
 use Rattle.std.proofs.Common.{◌≡◌, ◌∙◌, ℕ, zero, suc, ◌+◌, ◌<◌, ◌≤◌, ◌^◌, Bool, true, false, List, [], ◌++◌, length}
-use Rattle.std.proofs.Common.{take, Option, Some, None}
-use Rattle.std.proofs.Common.{Result, Ok, Err, refl, sym, ap, subst, arith, length-append, length-take}
-use Rattle.std.proofs.Common.{append-nil}
-use Rattle.std.proofs.Common.{⊎_elim}
-use Rattle.std.specs.Prelude.{IfSome}
-use Rattle.std.specs.List.{fold}
-use Rattle.std.proofs.lemmas.Bool.{cases_lt}
-use Rattle.std.proofs.lemmas.List.{take_all}
-use Rattle.std.proofs.lemmas.List.Sums.{fold-append}
-use Rattle.frame_terms.specs.declared.fault.FrameFault.{FrameFault}
-use Rattle.frame_terms.specs.declared.fault.ReadRefusal.{ReadRefusal}
-use Rattle.frame_terms.specs.declared.fault.ReadRefusal.TheVariants.{Frame}
+use Rattle.std.proofs.Common.{take, Option, Some, None, Result, Ok, Err, refl, sym, ap, subst, arith, length-append}
+use Rattle.std.proofs.{Common.{length-take, append-nil, ⊎_elim}, lemmas.{Bool.cases_lt, List.take_all}}
+use Rattle.std.{proofs.lemmas.List.Sums.fold-append, specs.{Prelude.IfSome, List.fold}}
+use Rattle.frame_terms.specs.declared.fault.{FrameFault.FrameFault, ReadRefusal.{ReadRefusal, TheVariants.Frame}}
 use Rattle.vote_terms.specs.Votes.{ReadVote}
 use Rattle.vote_doc.specs.Reading.{ReadsVote, vote_of}
 use Rattle.vote_parts.proofs.VoteFaults.{fault_of_vote}
-use Rattle.vote_feed.specs.declared.fed.Fed.{Fed}
+use Rattle.vote_feed.specs.{declared.fed.Fed.Fed, Feeding.{EndsSo, Feeds, IsFaulty, IsOpen, IsWhole, end_of}}
+use Rattle.vote_feed.proofs.{Votes.nothing_known, FedVotes.end_there}
 use Rattle.vote_feed.specs.declared.fed.Fed.TheVariants as fed
-use Rattle.vote_feed.specs.Feeding.{EndsSo, Feeds, IsFaulty, IsOpen, IsWhole, end_of}
-use Rattle.vote_feed.proofs.Votes.{nothing_known}
-use Rattle.vote_feed.proofs.FedVotes.{end_there}
-use Rattle.compute_command.specs.declared.rest.Stage.{Stage}
+use Rattle.compute_command.specs.declared.{rest.{Stage.Stage, Turn.Turn}, tail.Tail.{Tail, TheVariants.Blank}}
+use Rattle.compute_command.specs.{Beyonds.HasTooMany, Furthers.IsFurther, Rests.{AnswersEnd, EndsVote, HasFault}}
+use Rattle.compute_command.specs.Rests.{HasNoVote, IsFaultOf, IsRest, IsVoteOf, Knows, Read, Turns, next_by, next_of}
+use Rattle.compute_command.specs.{Rests.turn_on, Tails.{is_end, tail_of, tail_with}, Votes.one_more_of}
+use Rattle.compute_command.proofs.{Furthers.further_on, Rests.{ends_vote, fault_stays, has_fault, has_too_many}}
+use Rattle.compute_command.proofs.{Rests.vote_there, TailEnds.{end_is_none, not_end}}
 use Rattle.compute_command.specs.declared.rest.Stage.TheVariants as stage
-use Rattle.compute_command.specs.declared.rest.Turn.{Turn}
 use Rattle.compute_command.specs.declared.rest.Turn.TheVariants as turn
-use Rattle.compute_command.specs.declared.tail.Tail.{Tail}
-use Rattle.compute_command.specs.declared.tail.Tail.TheVariants.{Blank}
-use Rattle.compute_command.specs.Beyonds.{HasTooMany}
-use Rattle.compute_command.specs.Furthers.{IsFurther}
-use Rattle.compute_command.specs.Rests.{AnswersEnd, EndsVote, HasFault, HasNoVote, IsFaultOf, IsRest, IsVoteOf}
-use Rattle.compute_command.specs.Rests.{Knows, Read, Turns, next_by, next_of, turn_on}
-use Rattle.compute_command.specs.Tails.{is_end, tail_of, tail_with}
-use Rattle.compute_command.specs.Votes.{one_more_of}
-use Rattle.compute_command.proofs.Furthers.{further_on}
-use Rattle.compute_command.proofs.Rests.{ends_vote, fault_stays, has_fault, has_too_many}
-use Rattle.compute_command.proofs.Rests.{vote_there}
-use Rattle.compute_command.proofs.TailEnds.{end_is_none, not_end}
 
 -- ---- a feeder's vote
 

@@ -1,15 +1,12 @@
 -- What the verifier is asked of votes that are checked in their order.
 use Rattle.std.proofs.Common.{◌≡◌, ◌∙◌, ℕ, ◌+◌, ◌<◌, ◌≤◌, List, [], ◌∷◌, ◌++◌, length, take, drop, Option, Some, None}
 use Rattle.std.proofs.Common.{get_or, refl, sym, ap, subst, arith, length-take, append_assoc}
-use Rattle.std.specs.Prelude.{true, false, is_some}
-use Rattle.std.proofs.lemmas.List.{take-append-drop, take_all, take_more}
+use Rattle.std.{proofs.lemmas.List.{take-append-drop, take_all, take_more}, specs.Prelude.{true, false, is_some}}
 use Rattle.key_port.specs.Answers.{Steps}
 use Rattle.key_port.specs.declared.verifier.VerifyAnswer.TheVariants as verified
 use Rattle.vote_terms.specs.Votes.{ReadVote}
-use Rattle.vote_doc.specs.Checks.{AsksAll, AsksOfRefused}
-use Rattle.vote_doc.specs.declared.check.VoteRefusal.{VoteRefusal}
-use Rattle.compute_command.specs.declared.refusal.AcceptRefusal.{AcceptRefusal}
-use Rattle.compute_command.specs.Accepting.{refusal_of}
+use Rattle.vote_doc.specs.{Checks.{AsksAll, AsksOfRefused}, declared.check.VoteRefusal.VoteRefusal}
+use Rattle.compute_command.specs.{declared.refusal.AcceptRefusal.AcceptRefusal, Accepting.refusal_of}
 use Rattle.compute_command.specs.Asked.{AsksAccepted, AsksUpTo, AsksVotes}
 
 -- ---- one vote more

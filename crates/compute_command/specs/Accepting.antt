@@ -3,16 +3,12 @@ use Rattle.std.specs.Prelude.{◌≡◌, ℕ, List, All, Option, Some, None, Res
 use Rattle.key_port.specs.Answers.{Rules}
 use Rattle.authority_certs.specs.declared.checking.CertAnswer.{CertAnswer}
 use Rattle.authority_certs.specs.declared.checking.CertAnswer.TheVariants as answer
-use Rattle.vote_terms.specs.Votes.{ReadVote}
-use Rattle.vote_terms.specs.Held.{held}
-use Rattle.vote_terms.specs.Acceptable.{AsksOf, IsAcceptable, IsFirstRefused}
+use Rattle.vote_terms.specs.{Votes.ReadVote, Held.held, Acceptable.{AsksOf, IsAcceptable, IsFirstRefused}}
 use Rattle.vote_terms.specs.declared.word.VoteWord.{VoteWord}
 use Rattle.vote_terms.specs.declared.word.VoteWord.TheVariants as word
-use Rattle.vote_doc.specs.Holdings.{Holding}
-use Rattle.vote_doc.specs.declared.check.VoteRefusal.{VoteRefusal}
-use Rattle.vote_doc.specs.declared.check.VoteRefusal.TheVariants.{WrongPeriod, UnknownAuthority, Cert, BadSignature, VerifierFault}
-use Rattle.daemon_words.specs.declared.command.Compute.{Compute}
-use Rattle.daemon_words.specs.declared.stop.Stop.{Stop}
+use Rattle.vote_doc.specs.{Holdings.Holding, declared.check.VoteRefusal.{VoteRefusal, TheVariants.WrongPeriod}}
+use Rattle.vote_doc.specs.declared.check.VoteRefusal.TheVariants.{UnknownAuthority, Cert, BadSignature, VerifierFault}
+use Rattle.daemon_words.specs.declared.{command.Compute.Compute, stop.Stop.Stop}
 use Rattle.daemon_words.specs.declared.stop.Stop.TheVariants as stop
 use Rattle.compute_command.specs.declared.refusal.AcceptRefusal.{AcceptRefusal}
 use Rattle.compute_command.specs.declared.refusal.AcceptRefusal.TheVariants as refusal

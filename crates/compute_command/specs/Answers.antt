@@ -2,22 +2,17 @@
 use Rattle.std.specs.Prelude.{◌≡◌, ℕ, true, false, List, ◌++◌, length, All, Result, Ok, Err}
 use Rattle.frame_terms.specs.declared.fault.ReadRefusal.TheVariants.{Frame}
 use Rattle.key_port.specs.Answers.{Rules}
-use Rattle.vote_terms.specs.Votes.{ReadVote}
-use Rattle.count_terms.specs.Counts.{over}
-use Rattle.vote_terms.specs.Held.{held}
-use Rattle.vote_terms.specs.Acceptable.{AsksOf, IsAcceptable, IsFirstRefused, RefusesNone}
-use Rattle.compute_terms.specs.Consensuses.{consensus}
-use Rattle.consensus_terms.specs.Texts.{unsigned}
-use Rattle.consensus_terms.specs.declared.consensus.Consensus.{Consensus}
-use Rattle.consensus_terms.specs.declared.flavour.Flavour.TheVariants.{Ns, Microdesc}
+use Rattle.vote_terms.specs.{Votes.ReadVote, Held.held, Acceptable.{AsksOf, IsAcceptable, IsFirstRefused, RefusesNone}}
 use Rattle.vote_terms.specs.declared.word.VoteWord.{VoteWord}
-use Rattle.daemon_words.specs.declared.command.Compute.{Compute}
-use Rattle.daemon_words.specs.declared.command.Flavours.{Flavours}
+use Rattle.count_terms.specs.Counts.{over}
+use Rattle.compute_terms.specs.Consensuses.{consensus}
+use Rattle.consensus_terms.specs.{Texts.unsigned, declared.consensus.Consensus.Consensus}
+use Rattle.consensus_terms.specs.declared.flavour.Flavour.TheVariants.{Ns, Microdesc}
+use Rattle.daemon_words.specs.declared.command.{Compute.Compute, Flavours.Flavours}
 use Rattle.daemon_words.specs.declared.command.Flavours.TheVariants as flavours
-use Rattle.compute_command.specs.declared.refusal.ComputeRefusal.{ComputeRefusal}
+use Rattle.compute_command.specs.{declared.refusal.ComputeRefusal.ComputeRefusal, Votes.votes_of}
 use Rattle.compute_command.specs.declared.refusal.ComputeRefusal.TheVariants as refusal
 use Rattle.compute_command.specs.declared.refusal.VoteListRefusal.TheVariants as list
-use Rattle.compute_command.specs.Votes.{votes_of}
 
 -- the texts of a consensus in the flavours that are wanted; of both the ns flavour comes first
 abbrev pub texts_of : Flavours → Consensus → List ℕ

@@ -1,31 +1,20 @@
 -- An input whose bytes arrive, and its votes, which are checked as they end.
 use Rattle.std.specs.Prelude.{◌≡◌, ◌⊎◌, ℕ, ◌+◌, ◌-◌, ◌<◌, ◌≤◌, ◌^◌, List, [], ◌++◌, length, take, All, Option, Some}
-use Rattle.std.specs.Prelude.{None}
-use Rattle.std.specs.Prelude.{Result, Ok, Err}
-use Rattle.std.specs.Global.{Vec}
+use Rattle.std.specs.{Prelude.{None, Result, Ok, Err}, Global.Vec}
 use Rattle.dir_bytes.specs.Streams.{TakesAtMost}
 use Rattle.frame_terms.specs.declared.fault.ReadRefusal.TheVariants.{Frame}
 use Rattle.key_port.specs.Answers.{Rules}
-use Rattle.vote_terms.specs.Votes.{ReadVote}
-use Rattle.vote_terms.specs.Held.{held}
-use Rattle.vote_terms.specs.Acceptable.{IsAcceptable}
+use Rattle.vote_terms.specs.{Votes.ReadVote, Held.held, Acceptable.IsAcceptable}
 use Rattle.vote_doc.specs.Holdings.{Holding}
-use Rattle.daemon_words.specs.declared.command.Compute.{Compute}
-use Rattle.daemon_words.specs.declared.stop.Stop.{Stop}
+use Rattle.daemon_words.specs.declared.{command.Compute.Compute, stop.Stop.Stop}
 use Rattle.daemon_words.specs.declared.stop.Stop.TheVariants as stop
-use Rattle.compute_command.specs.declared.refusal.AcceptRefusal.{AcceptRefusal}
+use Rattle.compute_command.specs.declared.refusal.{AcceptRefusal.AcceptRefusal, EndRefusal.EndRefusal}
+use Rattle.compute_command.specs.declared.{arriving.Arriving.Arriving, checking.Checking.Checking, halt.Halt.Halt}
+use Rattle.compute_command.specs.{Accepting.StopsAt, Answers.ComputeAnswers, Checked.{IsChecked, TellsFirst}}
+use Rattle.compute_command.specs.{Rests.{AreVotes, IsRest, Takes, room_behind}, Votes.{most_votes, votes_of}}
 use Rattle.compute_command.specs.declared.refusal.ComputeRefusal.TheVariants as refusal
-use Rattle.compute_command.specs.declared.refusal.EndRefusal.{EndRefusal}
 use Rattle.compute_command.specs.declared.refusal.EndRefusal.TheVariants as end
-use Rattle.compute_command.specs.declared.arriving.Arriving.{Arriving}
-use Rattle.compute_command.specs.declared.checking.Checking.{Checking}
-use Rattle.compute_command.specs.declared.halt.Halt.{Halt}
 use Rattle.compute_command.specs.declared.halt.Halt.TheVariants as halt
-use Rattle.compute_command.specs.Accepting.{StopsAt}
-use Rattle.compute_command.specs.Answers.{ComputeAnswers}
-use Rattle.compute_command.specs.Checked.{IsChecked, TellsFirst}
-use Rattle.compute_command.specs.Rests.{AreVotes, IsRest, Takes, room_behind}
-use Rattle.compute_command.specs.Votes.{most_votes, votes_of}
 
 -- What is kept of an input of which these bytes have come: of the votes that were read, and of the bytes behind them.
 pub record IsArriving (rules : Rules) (wanted : Compute) (bytes : List ℕ) (arriving : Arriving) : Type 0 where

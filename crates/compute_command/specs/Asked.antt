@@ -1,30 +1,20 @@
 -- What the verifier is asked of the votes of an input, and in which order.
-use Rattle.std.specs.Prelude.{◌≡◌, ℕ, ◌+◌, ◌<◌, ◌^◌, List, [], ◌∷◌, ◌++◌, length, Option, Some, None}
-use Rattle.std.specs.Prelude.{Result, Ok, Err}
-use Rattle.std.specs.Global.{Vec}
-use Rattle.std.specs.Io.KnownBytes.{Consumes}
+use Rattle.std.specs.Prelude.{◌≡◌, ℕ, ◌+◌, ◌<◌, ◌^◌, List, [], ◌∷◌, ◌++◌, length, Option, Some, None, Result, Ok, Err}
+use Rattle.std.specs.{Global.Vec, Io.KnownBytes.Consumes}
 use Rattle.key_port.specs.Answers.{Rules, Steps}
 use Rattle.key_port.specs.declared.verifier.VerifyAnswer.TheVariants as verified
 use Rattle.vote_terms.specs.Votes.{ReadVote}
-use Rattle.vote_doc.specs.Checks.{AsksAll, AsksOfRefused}
-use Rattle.vote_doc.specs.Holdings.{Holding}
-use Rattle.vote_doc.specs.declared.check.VoteRefusal.{VoteRefusal}
-use Rattle.daemon_words.specs.declared.command.Compute.{Compute}
-use Rattle.daemon_words.specs.declared.stop.Stop.{Stop}
+use Rattle.vote_doc.specs.{Checks.{AsksAll, AsksOfRefused}, Holdings.Holding, declared.check.VoteRefusal.VoteRefusal}
+use Rattle.daemon_words.specs.declared.{command.Compute.Compute, stop.Stop.Stop}
 use Rattle.daemon_words.specs.declared.stop.Stop.TheVariants as stop
-use Rattle.compute_command.specs.declared.refusal.AcceptRefusal.{AcceptRefusal}
+use Rattle.compute_command.specs.declared.{refusal.AcceptRefusal.AcceptRefusal, arriving.Arriving.Arriving}
+use Rattle.compute_command.specs.{declared.{checking.Checking.Checking, halt.Halt.Halt}, Accepting.refusal_of}
+use Rattle.compute_command.specs.{Arriving.IsArriving, Checked.CheckedSo, Rests.{AreVotes, next_of, room_behind}}
+use Rattle.compute_command.specs.Votes.{votes_of}
 use Rattle.compute_command.specs.declared.refusal.AcceptRefusal.TheVariants as accept
 use Rattle.compute_command.specs.declared.refusal.ComputeRefusal.TheVariants as refusal
 use Rattle.compute_command.specs.declared.refusal.VoteListRefusal.TheVariants as list
-use Rattle.compute_command.specs.declared.arriving.Arriving.{Arriving}
-use Rattle.compute_command.specs.declared.checking.Checking.{Checking}
-use Rattle.compute_command.specs.declared.halt.Halt.{Halt}
 use Rattle.compute_command.specs.declared.halt.Halt.TheVariants as halt
-use Rattle.compute_command.specs.Accepting.{refusal_of}
-use Rattle.compute_command.specs.Arriving.{IsArriving}
-use Rattle.compute_command.specs.Checked.{CheckedSo}
-use Rattle.compute_command.specs.Rests.{AreVotes, next_of, room_behind}
-use Rattle.compute_command.specs.Votes.{votes_of}
 
 -- ---- of votes
 

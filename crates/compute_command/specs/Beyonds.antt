@@ -1,16 +1,11 @@
 -- The bytes behind the last vote that an input may have.
 use Rattle.std.specs.Prelude.{◌≡◌, ℕ, List, ◌++◌, Option, Some, None}
 use Rattle.item_terms.specs.Items.{no_limit}
-use Rattle.dirdoc_grammar.specs.declared.cursor.Cursor.{Cursor}
-use Rattle.dirdoc_grammar.specs.declared.take.Take.{Take}
+use Rattle.dirdoc_grammar.specs.{declared.{cursor.Cursor.Cursor, take.Take.Take}, Cursors.IsAt, Seen.seen_item}
 use Rattle.dirdoc_grammar.specs.declared.take.Take.TheVariants as taken
-use Rattle.dirdoc_grammar.specs.Cursors.{IsAt}
-use Rattle.dirdoc_grammar.specs.Seen.{seen_item}
-use Rattle.frame_terms.specs.declared.fault.FrameFault.{FrameFault}
-use Rattle.frame_terms.specs.declared.fault.FrameReason.TheVariants.{Doc}
+use Rattle.frame_terms.specs.declared.fault.{FrameFault.FrameFault, FrameReason.TheVariants.Doc}
 use Rattle.frame_terms.specs.declared.fault.ReadRefusal.TheVariants.{Frame}
-use Rattle.compute_command.specs.Furthers.{IsFurther}
-use Rattle.compute_command.specs.Votes.{item_too_many, one_more_of}
+use Rattle.compute_command.specs.{Furthers.IsFurther, Votes.{item_too_many, one_more_of}}
 
 -- Whatever follows, one vote more is refused for this fault.
 abbrev pub HasTooMany : List ℕ → FrameFault → Type 0

@@ -2,17 +2,13 @@
 use Rattle.std.specs.Prelude.{◌≡◌, ℕ, ◌<◌, ◌≤◌, List, [], ◌∷◌, ◌++◌, length, All, Option, Some, None, Result, Ok, Err}
 use Rattle.dir_bytes.specs.Causes.{Rose}
 use Rattle.key_port.specs.Answers.{Rules}
-use Rattle.vote_terms.specs.Votes.{ReadVote}
-use Rattle.vote_terms.specs.Held.{held}
-use Rattle.vote_terms.specs.Acceptable.{IsAcceptable}
+use Rattle.vote_terms.specs.{Votes.ReadVote, Held.held, Acceptable.IsAcceptable}
 use Rattle.vote_doc.specs.Holdings.{Holding}
 use Rattle.daemon_words.specs.declared.command.Compute.{Compute}
 use Rattle.daemon_words.specs.declared.stop.Stop.TheVariants as stop
-use Rattle.compute_command.specs.declared.refusal.AcceptRefusal.{AcceptRefusal}
+use Rattle.compute_command.specs.declared.{refusal.AcceptRefusal.AcceptRefusal, checking.Checking.Checking}
+use Rattle.compute_command.specs.{Accepting.StopsAt, Votes.most_votes}
 use Rattle.compute_command.specs.declared.refusal.AcceptRefusal.TheVariants as refusal
-use Rattle.compute_command.specs.declared.checking.Checking.{Checking}
-use Rattle.compute_command.specs.Accepting.{StopsAt}
-use Rattle.compute_command.specs.Votes.{most_votes}
 
 -- each vote is acceptable, and these are held; or why the first is refused that is
 abbrev pub CheckedSo : Rules → Compute → List ReadVote → List ReadVote → Option AcceptRefusal → Type 0

@@ -1,6 +1,5 @@
 -- What the private functions of this crate return.
-use Rattle.std.specs.Prelude.{◌≡◌, ℕ, true, false, List, length, Result, Ok, Err}
-use Rattle.std.specs.Global.{Vec}
+use Rattle.std.specs.{Prelude.{◌≡◌, ℕ, true, false, List, length, Result, Ok, Err}, Global.Vec}
 use Rattle.vote_terms.specs.Votes.{ReadVote}
 use Rattle.count_terms.specs.Counts.{over}
 use Rattle.compute_terms.specs.Consensuses.{consensus}

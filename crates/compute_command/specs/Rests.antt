@@ -1,23 +1,16 @@
 -- What stands in the bytes behind some votes of an input, and what is known of it while they arrive. Places count
 -- from the first of these bytes; those of faults that are kept or answered count from the input's first byte.
 use Rattle.std.specs.Prelude.{◌≡◌, ℕ, zero, suc, ◌+◌, ◌-◌, ◌<◌, ◌≤◌, ◌^◌, List, ◌++◌, length, take, Option, Some, None}
-use Rattle.std.specs.Prelude.{Result, Ok, Err}
-use Rattle.frame_terms.specs.declared.fault.FrameFault.{FrameFault}
-use Rattle.frame_terms.specs.declared.fault.ReadRefusal.{ReadRefusal}
-use Rattle.frame_terms.specs.declared.fault.ReadRefusal.TheVariants.{Frame}
+use Rattle.std.specs.{Prelude.{Result, Ok, Err}, List.fold}
+use Rattle.frame_terms.specs.declared.fault.{FrameFault.FrameFault, ReadRefusal.{ReadRefusal, TheVariants.Frame}}
 use Rattle.vote_terms.specs.Votes.{ReadVote}
 use Rattle.vote_doc.specs.Reading.{vote_of}
 use Rattle.vote_feed.specs.Feeding.{IsOpen}
-use Rattle.compute_command.specs.declared.rest.Rest.{Rest}
-use Rattle.compute_command.specs.declared.rest.Stage.{Stage}
+use Rattle.compute_command.specs.declared.{rest.{Rest.Rest, Stage.Stage, Turn.Turn}, tail.Tail.Tail}
+use Rattle.compute_command.specs.{Furthers.IsFurther, Tails.{tail_of, tail_with}, Votes.{most_votes, one_more_of}}
+use Rattle.compute_command.specs.Votes.{votes_from, votes_of, with_front}
 use Rattle.compute_command.specs.declared.rest.Stage.TheVariants as stage
-use Rattle.compute_command.specs.declared.rest.Turn.{Turn}
 use Rattle.compute_command.specs.declared.rest.Turn.TheVariants as turn
-use Rattle.compute_command.specs.declared.tail.Tail.{Tail}
-use Rattle.compute_command.specs.Furthers.{IsFurther}
-use Rattle.compute_command.specs.Tails.{tail_of, tail_with}
-use Rattle.compute_command.specs.Votes.{most_votes, one_more_of, votes_from, votes_of, with_front}
-use Rattle.std.specs.List.{fold}
 
 -- ---- what stands there
 

@@ -1,10 +1,7 @@
 -- Whether the bytes behind a vote are blank lines alone, byte by byte (dir-spec, "Document meta-format").
-use Rattle.std.specs.Prelude.{ℕ, ◌+◌, ◌==◌, nat_lt, Bool, false, List, if◌then◌else◌}
-use Rattle.std.specs.List.{fold}
-use Rattle.item_terms.specs.Bytes.{line_feed}
-use Rattle.item_terms.specs.Words.{is_blank}
-use Rattle.compute_command.specs.declared.tail.Tail.{Tail}
-use Rattle.compute_command.specs.declared.tail.Tail.TheVariants.{Blank, Other}
+use Rattle.std.specs.{Prelude.{ℕ, ◌+◌, ◌==◌, nat_lt, Bool, false, List, if◌then◌else◌}, List.fold}
+use Rattle.item_terms.specs.{Bytes.line_feed, Words.is_blank}
+use Rattle.compute_command.specs.declared.tail.Tail.{Tail, TheVariants.{Blank, Other}}
 
 -- how many blanks a blank line may have, beside its NL
 abbrev pub most_blanks : ℕ

@@ -1,14 +1,12 @@
 -- How a refusal of a call is told as the command's.
 use Rattle.consensus_calc.specs.declared.record.CalcFault.{CalcFault}
 use Rattle.consensus_calc.specs.declared.record.CalcFault.TheVariants as calc
-use Rattle.daemon_words.specs.Stops.{told_as}
-use Rattle.daemon_words.specs.declared.stop.Stop.{Stop}
+use Rattle.daemon_words.specs.{Stops.told_as, declared.stop.Stop.Stop}
 use Rattle.daemon_words.specs.declared.stop.Stop.TheVariants as stop
-use Rattle.compute_command.specs.declared.refusal.AcceptRefusal.{AcceptRefusal}
-use Rattle.compute_command.specs.declared.refusal.AcceptRefusal.TheVariants as accept
-use Rattle.compute_command.specs.declared.refusal.ComputeRefusal.{ComputeRefusal}
-use Rattle.compute_command.specs.declared.refusal.ComputeRefusal.TheVariants as refusal
+use Rattle.compute_command.specs.declared.refusal.{AcceptRefusal.AcceptRefusal, ComputeRefusal.ComputeRefusal}
 use Rattle.compute_command.specs.declared.refusal.EndRefusal.{EndRefusal}
+use Rattle.compute_command.specs.declared.refusal.AcceptRefusal.TheVariants as accept
+use Rattle.compute_command.specs.declared.refusal.ComputeRefusal.TheVariants as refusal
 use Rattle.compute_command.specs.declared.refusal.EndRefusal.TheVariants as end
 use Rattle.compute_command.specs.declared.refusal.VoteListRefusal.TheVariants as list
 

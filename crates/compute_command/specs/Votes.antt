@@ -1,15 +1,10 @@
 -- The votes that an input is: one after the other, with nothing but blank lines before, between and after them.
 use Rattle.std.specs.Prelude.{ℕ, zero, suc, List, [], ◌∷◌, ◌++◌, drop, Option, Some, None, Result, Ok, Err, unwrap_or}
 use Rattle.std.specs.Option.{option_map}
-use Rattle.item_terms.specs.Items.{Item, items_of, no_limit}
-use Rattle.item_terms.specs.declared.fault.DocFault.{DocFault}
-use Rattle.frame_terms.specs.declared.fault.FrameFault.{FrameFault}
-use Rattle.frame_terms.specs.declared.fault.FrameReason.TheVariants.{TooMany}
-use Rattle.frame_terms.specs.declared.fault.ReadRefusal.{ReadRefusal}
-use Rattle.frame_terms.specs.declared.fault.ReadRefusal.TheVariants.{Frame}
-use Rattle.frame_terms.specs.declared.row.Limit.TheVariants.{Votes}
-use Rattle.frame_terms.specs.Decisions.{first_fault}
-use Rattle.frame_terms.specs.Refusals.{of_doc}
+use Rattle.item_terms.specs.{Items.{Item, items_of, no_limit}, declared.fault.DocFault.DocFault}
+use Rattle.frame_terms.specs.declared.fault.{FrameFault.FrameFault, FrameReason.TheVariants.TooMany}
+use Rattle.frame_terms.specs.declared.{fault.ReadRefusal.{ReadRefusal, TheVariants.Frame}, row.Limit.TheVariants.Votes}
+use Rattle.frame_terms.specs.{Decisions.first_fault, Refusals.of_doc}
 use Rattle.vote_terms.specs.Votes.{ReadVote}
 use Rattle.blank_lines.specs.Behind.{refusal_behind}
 use Rattle.vote_doc.specs.Reading.{vote_from}

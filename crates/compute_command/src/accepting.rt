@@ -3,8 +3,7 @@ ghost use Rattle.std.specs.Prelude.{◌≡◌, ◌≤◌, ◌<◌, ◌^◌, Err,
 ghost use Rattle.dir_bytes.specs.Causes.{Rose};
 ghost use Rattle.key_port.specs.Answers.{rules};
 ghost use Rattle.compute_command.specs.Accepting as words;
-ghost use Rattle.compute_command.specs.Accepting.{Accepts};
-ghost use Rattle.compute_command.specs.Asked.{AsksListed};
+ghost use Rattle.compute_command.specs.{Accepting.Accepts, Asked.AsksListed};
 
 use crate::refusal::AcceptRefusal;
 use daemon_words::{Compute, Stop};

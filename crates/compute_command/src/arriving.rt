@@ -1,11 +1,9 @@
 // The votes of an input, which are checked as its bytes arrive.
 ghost use Rattle.std.specs.Prelude.{◌≡◌, ◌++◌, None, length, take, IfOk};
 ghost use Rattle.key_port.specs.Answers.{rules};
-ghost use Rattle.compute_command.specs.Asked.{AskedBefore, AsksArrived};
-ghost use Rattle.compute_command.specs.Arriving.{BeginsBehind, EndsAll, HasArrived, IsArriving, NoneArrived};
-ghost use Rattle.compute_command.specs.Arriving.{TellsEnd, TurnsTo, WithMore};
-ghost use Rattle.compute_command.specs.Checked.{TellsOn};
-ghost use Rattle.compute_command.specs.Rests.{HasRest};
+ghost use Rattle.compute_command.specs.{Asked.{AskedBefore, AsksArrived}, Arriving.{BeginsBehind, EndsAll, HasArrived}};
+ghost use Rattle.compute_command.specs.Arriving.{IsArriving, NoneArrived, TellsEnd, TurnsTo, WithMore};
+ghost use Rattle.compute_command.specs.{Checked.TellsOn, Rests.HasRest};
 
 use crate::checking::Checking;
 use crate::refusal::EndRefusal;

@@ -1,10 +1,8 @@
 // What stands behind the last vote that an input may have.
-ghost use Rattle.std.specs.Prelude.{◌≡◌, ◌++◌, ◌+◌, ◌<◌, ◌^◌, [], length, IfOk, IfSome, OnOk};
-ghost use Rattle.std.specs.Option.{option_map};
+ghost use Rattle.std.specs.{Prelude.{◌≡◌, ◌++◌, ◌+◌, ◌<◌, ◌^◌, [], length, IfOk, IfSome, OnOk}, Option.option_map};
 ghost use Rattle.compute_command.specs.Beyonds as terms;
 ghost use Rattle.blank_lines.specs.Behind.{fault_behind};
-ghost use Rattle.compute_command.specs.Beyonds.{EndsBeyond, HasTooMany};
-ghost use Rattle.compute_command.specs.Furthers.{IsFurther};
+ghost use Rattle.compute_command.specs.{Beyonds.{EndsBeyond, HasTooMany}, Furthers.IsFurther};
 
 use crate::most_votes::item_too_many;
 use dir_bytes::Memory;

@@ -1,10 +1,9 @@
 // Votes that are checked as they come, and those of them that are held.
 ghost use Rattle.std.specs.Prelude.{◌≡◌, ◌<◌, nat_le, None, IfOk};
 ghost use Rattle.key_port.specs.Answers.{rules};
-ghost use Rattle.compute_command.specs.Asked.{AsksOneMore};
-ghost use Rattle.compute_command.specs.Checked as terms;
-ghost use Rattle.compute_command.specs.Checked.{HasRoom, NoneCame, OneMoreChecked, TellsOn};
+ghost use Rattle.compute_command.specs.{Asked.AsksOneMore, Checked.{HasRoom, NoneCame, OneMoreChecked, TellsOn}};
 ghost use Rattle.compute_command.specs.Votes.{most_votes};
+ghost use Rattle.compute_command.specs.Checked as terms;
 
 use crate::accepting::refused;
 use crate::most_votes::MOST_VOTES;

@@ -1,8 +1,7 @@
 // The texts of the consensus of the held votes.
 ghost use Rattle.std.specs.Prelude.{◌≡◌, IfOk};
 ghost use Rattle.consensus_calc.specs.Calculating.{HasMoments};
-ghost use Rattle.compute_command.specs.Answers.{texts_of};
-ghost use Rattle.compute_command.specs.Private.{WritesText};
+ghost use Rattle.compute_command.specs.{Answers.texts_of, Private.WritesText};
 
 use consensus_calc::{CalcFault, compute};
 use consensus_terms::{Consensus, Flavour};

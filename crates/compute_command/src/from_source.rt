@@ -1,11 +1,9 @@
 // The command that computes a consensus, over a source.
 ghost use Rattle.std.specs.Prelude.{◌≡◌, ◌≤◌, ◌<◌, ◌+◌, ◌^◌, Err, IfErr};
-ghost use Rattle.dir_bytes.specs.Causes.{Rose};
-ghost use Rattle.dir_bytes.specs.Streams.{TakesAtMost};
+ghost use Rattle.dir_bytes.specs.{Causes.Rose, Streams.TakesAtMost};
 ghost use Rattle.key_port.specs.Answers.{rules};
-ghost use Rattle.compute_command.specs.Asked.{AsksFrom, AsksReading};
-ghost use Rattle.compute_command.specs.Arriving.{ComputesFrom, HasReadVotes, StopsReading};
-ghost use Rattle.compute_command.specs.Arriving.{TellsRead, TellsVerifier};
+ghost use Rattle.compute_command.specs.{Asked.{AsksFrom, AsksReading}, Arriving.{ComputesFrom, HasReadVotes}};
+ghost use Rattle.compute_command.specs.Arriving.{StopsReading, TellsRead, TellsVerifier};
 
 use crate::arriving::Arriving;
 use crate::consensus::text_of;

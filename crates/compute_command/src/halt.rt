@@ -1,7 +1,6 @@
 // Why an input that is checked while it is read gives nothing.
 ghost use Rattle.std.specs.Prelude.{◌≡◌};
-ghost use Rattle.compute_command.specs.Told.{of_calc, of_end};
-ghost use Rattle.compute_command.specs.declared.halt.Halt.TheVariants.{Stops};
+ghost use Rattle.compute_command.specs.{Told.{of_calc, of_end}, declared.halt.Halt.TheVariants.Stops};
 ghost use Rattle.daemon_words.specs.declared.stop.Stop.TheVariants.{Memory as NoMemory};
 
 use crate::refusal::{AcceptRefusal, ComputeRefusal, EndRefusal, VoteListRefusal};

@@ -1,10 +1,9 @@
 // What is known of the bytes behind the votes that were read.
 ghost use Rattle.std.specs.Prelude.{◌≡◌, ◌<◌, ◌+◌, ◌^◌, ℕ, [], List, length, true, IfOk};
 ghost use Rattle.vote_feed.specs.Feeding.{IsOpen, IsWhole};
-ghost use Rattle.compute_command.specs.Furthers.{IsFurther};
+ghost use Rattle.compute_command.specs.{Furthers.IsFurther, Rests.{AnswersEnd, HasNoVote, HasRest, IsFaultOf, IsRest}};
+ghost use Rattle.compute_command.specs.{Rests.{IsVoteOf, Turns}, Tails.tail_of};
 ghost use Rattle.compute_command.specs.Rests as terms;
-ghost use Rattle.compute_command.specs.Rests.{AnswersEnd, HasNoVote, HasRest, IsFaultOf, IsRest, IsVoteOf, Turns};
-ghost use Rattle.compute_command.specs.Tails.{tail_of};
 
 use crate::beyond::Beyond;
 use crate::tail::{Tail, tail_after};

@@ -1,6 +1,5 @@
 // Whether the bytes behind a vote are blank lines alone.
-ghost use Rattle.std.specs.Prelude.{◌≡◌};
-ghost use Rattle.std.specs.List.{fold};
+ghost use Rattle.std.specs.{Prelude.◌≡◌, List.fold};
 ghost use Rattle.compute_command.specs.Tails as terms;
 
 /// How many blanks a blank line may have, beside its NL.

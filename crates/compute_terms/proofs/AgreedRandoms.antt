@@ -1,18 +1,14 @@
 -- At most one shared random value is agreed on a line, and it is the one that the consensus says.
 use Rattle.std.proofs.Common.{◌≡◌, ℕ, ◌+◌, ◌<◌, ◌≤◌, Bool, true, false, List, [], ◌∷◌, length, Option, Some, None, cond}
-use Rattle.std.proofs.Common.{refl, sym, ap, subst, ◌∙◌, arith}
-use Rattle.std.specs.Prelude.{◌*◌, ◌==◌, ◌||◌, filter, if◌then◌else◌}
-use Rattle.std.specs.Cmp.Lexicographic.{bytes_decides}
-use Rattle.std.specs.List.{cons_option, filter_map, find, list_any}
-use Rattle.std.specs.Str.{bytes_eq}
-use Rattle.std.proofs.lemmas.List.Sums.{length-filter}
-use Rattle.std.proofs.lemmas.Bool.{and_parts, eqb-true, false≢true, ltb-true}
-use Rattle.value_groups.specs.Values.{same_random}
-use Rattle.value_groups.specs.declared.line.RandomLine.{RandomLine}
+use Rattle.std.proofs.{Common.{refl, sym, ap, subst, ◌∙◌, arith}, lemmas.{List.Sums.length-filter, Bool.and_parts}}
+use Rattle.std.{proofs.lemmas.Bool.{eqb-true, false≢true, ltb-true}, specs.Prelude.{◌*◌, ◌==◌, ◌||◌, filter}}
+use Rattle.std.specs.{Prelude.if◌then◌else◌, Cmp.Lexicographic.bytes_decides, List.{cons_option, filter_map, find}}
+use Rattle.std.specs.{List.list_any, Str.bytes_eq}
+use Rattle.value_groups.specs.{Values.same_random, declared.line.RandomLine.RandomLine}
 use Rattle.value_groups.specs.declared.value.SharedRandom.{SharedRandom}
 use Rattle.vote_terms.specs.Votes.{ReadVote}
-use Rattle.compute_terms.specs.Randoms.{AgreedRandomsAreListed, RandomsAreAlone, is_agreed, is_random, random_of, votes_for}
-use Rattle.compute_terms.proofs.Majorities.{majorities_meet}
+use Rattle.compute_terms.specs.Randoms.{AgreedRandomsAreListed, RandomsAreAlone, is_agreed, is_random, random_of}
+use Rattle.compute_terms.{specs.Randoms.votes_for, proofs.Majorities.majorities_meet}
 
 -- ---- one value
 

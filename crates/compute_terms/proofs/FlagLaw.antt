@@ -1,7 +1,6 @@
 -- A consensus knows the flags that votes list, and its own.
 use Rattle.std.proofs.Common.{◌≡◌, ℕ, Bool, true, false, cond, ◌&&◌, ◌||◌, List, [], ◌∷◌, ◌++◌, refl, sym, ap, ◌∙◌}
-use Rattle.std.specs.Prelude.{codes}
-use Rattle.std.specs.Str.{bytes_eq}
+use Rattle.std.specs.{Prelude.codes, Str.bytes_eq}
 use Rattle.dir_values.specs.FlagSets.{has_flag}
 use Rattle.dir_values.proofs.Flags as flag_sets
 use Rattle.vote_terms.specs.Votes.{ReadVote}

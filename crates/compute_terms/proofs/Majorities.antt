@@ -1,8 +1,6 @@
 -- Two majorities of a roster meet, where no more are counted than it has authorities.
 use Rattle.std.proofs.Common.{◌≡◌, ◌⊎◌, ℕ, ◌+◌, ◌≤◌, Bool, true, false, List, [], ◌∷◌, length, refl, arith, inl, inr}
-use Rattle.std.specs.Prelude.{count_by, filter}
-use Rattle.std.proofs.lemmas.Bool.{ltb-true}
-use Rattle.std.proofs.lemmas.List.Sums.{length-filter}
+use Rattle.std.{proofs.lemmas.{Bool.ltb-true, List.Sums.length-filter}, specs.Prelude.{count_by, filter}}
 use Rattle.count_terms.specs.Counts.{over}
 
 module _ {X : Type 0} where

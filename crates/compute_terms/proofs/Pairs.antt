@@ -1,13 +1,11 @@
 -- At most one pair of an RSA identity is included: no `id` line names two parts.
-use Rattle.std.proofs.Common.{◌≡◌, ℕ, true, List, refl, sym, ap, ◌∙◌}
+use Rattle.std.proofs.{Common.{◌≡◌, ℕ, true, List, refl, sym, ap, ◌∙◌}, lemmas.Bool.false≢true}
 use Rattle.std.specs.Cmp.Lexicographic.{bytes_decides}
-use Rattle.std.proofs.lemmas.Bool.{false≢true}
 use Rattle.relay_entries.specs.declared.said.EdOpinion.{EdOpinion}
 use Rattle.relay_entries.specs.declared.said.EdOpinion.TheVariants as said
-use Rattle.compute_terms.specs.declared.identity.EdPart.{EdPart}
-use Rattle.compute_terms.specs.declared.identity.EdPart.TheVariants as part
-use Rattle.compute_terms.specs.Identities.{names, PairsAreAlone}
+use Rattle.compute_terms.specs.{declared.identity.EdPart.EdPart, Identities.{names, PairsAreAlone}}
 use Rattle.compute_terms.proofs.Majorities.{majorities_meet}
+use Rattle.compute_terms.specs.declared.identity.EdPart.TheVariants as part
 
 -- a line that names two parts names one
 names_one : (a b : EdPart) (ed : EdOpinion) → names a ed ≡ true → names b ed ≡ true → a ≡ b

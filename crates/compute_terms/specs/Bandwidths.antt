@@ -1,9 +1,7 @@
 -- The bandwidth of a relay (dir-spec, "Computing a consensus from a set of votes").
-use Rattle.std.specs.Prelude.{ℕ, nat_le, min, Bool, true, false, List, [], ◌∷◌, length, count_by, Option, Some, None, is_some, if◌then◌else◌}
-use Rattle.std.specs.List.{filter_map, list_any}
-use Rattle.vote_terms.specs.Votes.{ReadVote}
-use Rattle.vote_terms.specs.declared.entry.EntryFacts.{EntryFacts}
-use Rattle.vote_terms.specs.Entries.{bandwidth_of, measured_of}
+use Rattle.std.specs.Prelude.{ℕ, nat_le, min, Bool, true, false, List, [], ◌∷◌, length, count_by, Option, Some, None}
+use Rattle.std.specs.{Prelude.{is_some, if◌then◌else◌}, List.{filter_map, list_any}}
+use Rattle.vote_terms.specs.{Votes.ReadVote, declared.entry.EntryFacts.EntryFacts, Entries.{bandwidth_of, measured_of}}
 use Rattle.consensus_terms.specs.declared.router.Bandwidth.{Bandwidth}
 use Rattle.count_terms.specs.Counts.{low_median}
 

@@ -2,17 +2,11 @@
 use Rattle.std.specs.Prelude.{ℕ, List, map}
 use Rattle.vote_terms.specs.Votes.{ReadVote, vote_digest}
 use Rattle.count_terms.specs.declared.newest.Newest.{Newest}
-use Rattle.compute_terms.specs.Times.{median_of}
-use Rattle.compute_terms.specs.Flags.{known_flags}
-use Rattle.compute_terms.specs.Lists.{listed_params, lists_of}
-use Rattle.compute_terms.specs.Randoms.{agreed_random}
+use Rattle.compute_terms.specs.{Times.median_of, Flags.known_flags, Lists.{listed_params, lists_of}}
+use Rattle.compute_terms.specs.{Randoms.agreed_random, Methods.chosen_method, Routers.routers}
 use Rattle.value_groups.specs.declared.line.RandomLine.TheVariants.{Previous, Current}
-use Rattle.compute_terms.specs.Methods.{chosen_method}
-use Rattle.bandwidth_rules.specs.Limits.{unmeasured_limit}
-use Rattle.compute_terms.specs.Routers.{routers}
-use Rattle.bandwidth_rules.specs.Weights.{relay_weights}
-use Rattle.consensus_terms.specs.declared.consensus.Consensus.{Consensus}
-use Rattle.consensus_terms.specs.declared.consensus.ConsensusFacts.{ConsensusFacts}
+use Rattle.bandwidth_rules.specs.{Limits.unmeasured_limit, Weights.relay_weights}
+use Rattle.consensus_terms.specs.declared.consensus.{Consensus.Consensus, ConsensusFacts.ConsensusFacts}
 use Rattle.consensus_terms.specs.declared.consensus.SourceLine.{SourceLine}
 
 -- what a consensus says of a vote's authority

@@ -1,8 +1,6 @@
 -- The flags that a consensus knows.
 pub use Rattle.field_votes.specs.Flags.{with_own_flags}
-use Rattle.std.specs.Prelude.{◌≡◌, ℕ, Bool, ◌&&◌, ◌||◌, List, codes}
-use Rattle.std.specs.Str.{bytes_eq}
-use Rattle.std.specs.List.{list_any, flat_map}
+use Rattle.std.specs.{Prelude.{◌≡◌, ℕ, Bool, ◌&&◌, ◌||◌, List, codes}, Str.bytes_eq, List.{list_any, flat_map}}
 use Rattle.dir_values.specs.FlagSets.{as_set, has_flag}
 use Rattle.vote_terms.specs.Votes.{ReadVote}
 

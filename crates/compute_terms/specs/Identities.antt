@@ -1,16 +1,14 @@
 -- The identities that a consensus includes (dir-spec, "Computing a consensus from a set of votes").
-use Rattle.std.specs.Prelude.{◌≡◌, ◌≤◌, ℕ, Bool, true, false, List, length, map, count_by, Option, Some, None, option_map, if◌then◌else◌}
-use Rattle.std.specs.List.{find, filter_map}
-use Rattle.std.specs.Str.{bytes_eq}
+use Rattle.std.specs.Prelude.{◌≡◌, ◌≤◌, ℕ, Bool, true, false, List, length, map, count_by, Option, Some, None}
+use Rattle.std.specs.{Prelude.{option_map, if◌then◌else◌}, List.{find, filter_map}, Str.bytes_eq}
 use Rattle.dir_values.specs.declared.digest.Fingerprint.{Fingerprint}
 use Rattle.relay_entries.specs.declared.said.EdOpinion.{EdOpinion}
 use Rattle.relay_entries.specs.declared.said.EdOpinion.TheVariants as said
 use Rattle.vote_terms.specs.Votes.{ReadVote}
 use Rattle.count_terms.specs.Counts.{over}
-use Rattle.compute_terms.specs.declared.identity.EdPart.{EdPart}
+use Rattle.compute_terms.specs.{declared.identity.{EdPart.EdPart, Identity.Identity}, Listings.{Listing, listings}}
+use Rattle.compute_terms.specs.Listings.{identities_in}
 use Rattle.compute_terms.specs.declared.identity.EdPart.TheVariants as part
-use Rattle.compute_terms.specs.declared.identity.Identity.{Identity}
-use Rattle.compute_terms.specs.Listings.{Listing, listings, identities_in}
 
 -- the part of a pair that an `id` line names
 abbrev pub part_in : EdOpinion → Option EdPart

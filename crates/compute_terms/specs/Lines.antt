@@ -1,14 +1,8 @@
 -- The lines of a relay that are chosen one by one (dir-spec, "Computing a consensus from a set of votes").
-use Rattle.std.specs.Prelude.{ℕ, List, Option, None, if◌then◌else◌}
-use Rattle.std.specs.List.{filter_map}
-use Rattle.std.specs.Str.{bytes_eq}
-use Rattle.std.specs.declared.cmp.Ordering.{Ordering}
-use Rattle.std.specs.Ordering.{is_eq}
-use Rattle.dir_values.specs.declared.digest.Digest1.{Digest1}
-use Rattle.dir_values.specs.declared.digest.Digest2.{Digest2}
-use Rattle.dir_values.specs.Versions.{named_order}
-use Rattle.vote_terms.specs.declared.entry.EntryFacts.{EntryFacts}
-use Rattle.vote_terms.specs.Entries.{first_address, micro_for}
+use Rattle.std.specs.{Prelude.{ℕ, List, Option, None, if◌then◌else◌}, List.filter_map, Str.bytes_eq}
+use Rattle.std.specs.{declared.cmp.Ordering.Ordering, Ordering.is_eq}
+use Rattle.dir_values.specs.{declared.digest.{Digest1.Digest1, Digest2.Digest2}, Versions.named_order}
+use Rattle.vote_terms.specs.{declared.entry.EntryFacts.EntryFacts, Entries.{first_address, micro_for}}
 use Rattle.count_terms.specs.Choosing.{chosen, text_order}
 use Rattle.compute_terms.specs.Tuples.{Tuple, tuple_of, tuple_order}
 

@@ -1,11 +1,8 @@
 -- What votes say of one relay (dir-spec, "Computing a consensus from a set of votes").
-use Rattle.std.specs.Prelude.{ℕ, List, map, All, Option, IsSome, option_map, option_and_then, slice_get}
-use Rattle.std.specs.List.{find, filter_map, flat_map}
-use Rattle.dir_values.specs.declared.digest.Fingerprint.{Fingerprint}
-use Rattle.dir_values.specs.Digests.{same_identity}
-use Rattle.dir_values.specs.FlagSets.{as_set}
-use Rattle.vote_terms.specs.Votes.{ReadVote}
-use Rattle.vote_terms.specs.declared.entry.EntryFacts.{EntryFacts}
+use Rattle.std.specs.{Prelude.{ℕ, List, map, All, Option, IsSome, option_map, option_and_then, slice_get}, List.find}
+use Rattle.std.specs.List.{filter_map, flat_map}
+use Rattle.dir_values.specs.{declared.digest.Fingerprint.Fingerprint, Digests.same_identity, FlagSets.as_set}
+use Rattle.vote_terms.specs.{Votes.ReadVote, declared.entry.EntryFacts.EntryFacts}
 use Rattle.compute_terms.specs.declared.belong.Belong.{Belong}
 
 -- a vote, and its entry of a relay

@@ -1,10 +1,8 @@
 -- The versions, protocols and params of a consensus (dir-spec, "Computing a consensus from a set of votes").
 use Rattle.std.specs.Prelude.{ℕ, ℤ, List, [], map, Option, unwrap_or}
-use Rattle.field_votes.specs.Lists.{voted_params, voted_protocols}
-use Rattle.field_votes.specs.Versions.{voted_versions}
+use Rattle.field_votes.specs.{Lists.{voted_params, voted_protocols}, Versions.voted_versions}
 use Rattle.list_values.specs.declared.named.Named.{Named}
-use Rattle.vote_terms.specs.Votes.{ReadVote}
-use Rattle.vote_terms.specs.declared.lists.VoteLists.{VoteLists}
+use Rattle.vote_terms.specs.{Votes.ReadVote, declared.lists.VoteLists.VoteLists}
 use Rattle.consensus_terms.specs.declared.consensus.ConsensusLists.{ConsensusLists}
 
 -- what each vote has on a line, nothing where it has not the line

@@ -2,10 +2,8 @@
 use Rattle.std.specs.Prelude.{◌≡◌, ℕ, ◌≤◌, Bool, true, false, List, length, count_by, Option, Some, None}
 use Rattle.std.specs.List.{filter_map, find}
 use Rattle.count_terms.specs.Counts.{over}
-use Rattle.value_groups.specs.Values.{same_random}
-use Rattle.value_groups.specs.declared.line.RandomLine.{RandomLine}
-use Rattle.value_groups.specs.declared.line.RandomLine.TheVariants.{Previous, Current}
-use Rattle.value_groups.specs.declared.value.SharedRandom.{SharedRandom}
+use Rattle.value_groups.specs.{Values.same_random, declared.line.RandomLine.{RandomLine, TheVariants.Previous}}
+use Rattle.value_groups.specs.declared.{line.RandomLine.TheVariants.Current, value.SharedRandom.SharedRandom}
 use Rattle.vote_terms.specs.Votes.{ReadVote}
 
 -- what a vote says on a line

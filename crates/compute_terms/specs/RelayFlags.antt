@@ -1,14 +1,11 @@
 -- The flags of a relay (dir-spec, "Computing a consensus from a set of votes").
 pub use Rattle.field_votes.specs.Flags.{suits_middle, middle_flags, adjusted_flags}
-use Rattle.std.specs.Prelude.{ℕ, Bool, true, false, ◌&&◌, List, count_by, filter, codes, if◌then◌else◌}
-use Rattle.std.specs.Str.{bytes_eq}
+use Rattle.std.specs.{Prelude.{ℕ, Bool, true, false, ◌&&◌, List, count_by, filter, codes, if◌then◌else◌}, Str.bytes_eq}
 use Rattle.dir_values.specs.FlagSets.{has_flag, as_set}
 use Rattle.vote_terms.specs.Votes.{ReadVote}
 use Rattle.count_terms.specs.Counts.{over}
-use Rattle.compute_terms.specs.declared.identity.EdPart.{EdPart}
+use Rattle.compute_terms.specs.{declared.identity.EdPart.EdPart, Flags.known_flags, Listings.Listing}
 use Rattle.compute_terms.specs.declared.identity.EdPart.TheVariants as part
-use Rattle.compute_terms.specs.Flags.{known_flags}
-use Rattle.compute_terms.specs.Listings.{Listing}
 
 -- whether a vote knows a flag
 abbrev pub knows : List ℕ → ReadVote → Bool

@@ -2,14 +2,11 @@
 use Rattle.std.specs.Prelude.{ℕ, List, filter, Option, None, option_map, option_and_then, if◌then◌else◌}
 use Rattle.std.specs.List.{filter_map}
 use Rattle.dir_values.specs.declared.digest.Fingerprint.{Fingerprint}
-use Rattle.vote_terms.specs.Votes.{ReadVote}
-use Rattle.vote_terms.specs.declared.entry.EntryFacts.{EntryFacts}
+use Rattle.vote_terms.specs.{Votes.ReadVote, declared.entry.EntryFacts.EntryFacts}
 use Rattle.consensus_terms.specs.declared.router.Routerline.{Routerline}
-use Rattle.compute_terms.specs.declared.identity.EdPart.{EdPart}
-use Rattle.compute_terms.specs.Listings.{Listing, listings, identities_in, entries_of}
-use Rattle.compute_terms.specs.Identities.{eds_of, included_part, belongs}
-use Rattle.compute_terms.specs.Tuples.{Tuple, chosen_tuple}
-use Rattle.compute_terms.specs.RelayFlags.{router_flags, is_running_and_valid}
+use Rattle.compute_terms.specs.{declared.identity.EdPart.EdPart, Listings.{Listing, listings, identities_in}}
+use Rattle.compute_terms.specs.{Listings.entries_of, Identities.{eds_of, included_part, belongs}, Tuples.Tuple}
+use Rattle.compute_terms.specs.{Tuples.chosen_tuple, RelayFlags.{router_flags, is_running_and_valid}}
 use Rattle.compute_terms.specs.Lines.{chosen_version, chosen_protocols, chosen_policy, chosen_micro, chosen_address}
 use Rattle.compute_terms.specs.Bandwidths.{relay_bandwidth, cap_of}
 

@@ -1,8 +1,6 @@
 -- The tuple of a relay: its descriptor, its name and where it is reached (dir-spec, "Computing a consensus from a set
 -- of votes").
-use Rattle.std.specs.Prelude.{ℕ, List, map, Option}
-use Rattle.std.specs.declared.cmp.Ordering.{Ordering}
-use Rattle.std.specs.Ordering.{nat_cmp, ordering_then}
+use Rattle.std.specs.{Prelude.{ℕ, List, map, Option}, declared.cmp.Ordering.Ordering, Ordering.{nat_cmp, ordering_then}}
 use Rattle.dir_values.specs.declared.digest.Digest1.{Digest1}
 use Rattle.vote_terms.specs.declared.entry.EntryFacts.{EntryFacts}
 use Rattle.count_terms.specs.Choosing.{chosen, text_order}

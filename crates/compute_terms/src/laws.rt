@@ -1,7 +1,6 @@
 // Laws of the definitions.
-ghost use Rattle.compute_terms.specs.Flags.{KnowsFlags};
-ghost use Rattle.compute_terms.specs.Identities.{PairsAreAlone};
-ghost use Rattle.compute_terms.specs.Randoms.{AgreedRandomsAreListed, RandomsAreAlone};
+ghost use Rattle.compute_terms.specs.{Flags.KnowsFlags, Identities.PairsAreAlone, Randoms.AgreedRandomsAreListed};
+ghost use Rattle.compute_terms.specs.Randoms.{RandomsAreAlone};
 
 /// A consensus knows exactly the flags that some vote lists, `NoEdConsensus`, and, where some vote lists `MiddleOnly`,
 /// `BadExit`.

@@ -1,27 +1,17 @@
 -- The texts that a consensus takes of votes as they stand may be the rests of lines.
-use Rattle.std.proofs.Common.{ℕ, List, [], ◌∷◌, Option, Some, None, map}
-use Rattle.std.specs.Prelude.{All, IfSome}
-use Rattle.std.specs.Str.{bytes_eq}
-use Rattle.std.proofs.lemmas.List.Elements.{All-cons, All-map, All-nil, All-weaker}
-use Rattle.dir_values.specs.declared.digest.Fingerprint.{Fingerprint}
-use Rattle.dir_values.specs.Versions.{named_order}
+use Rattle.std.proofs.{Common.{ℕ, List, [], ◌∷◌, Option, Some, None, map}, lemmas.List.Elements.{All-cons, All-map}}
+use Rattle.std.{proofs.lemmas.List.Elements.{All-nil, All-weaker}, specs.{Prelude.{All, IfSome}, Str.bytes_eq}}
+use Rattle.dir_values.specs.{declared.digest.Fingerprint.Fingerprint, Versions.named_order}
 use Rattle.dirdoc_grammar.specs.Writing.{IsLineRest}
 use Rattle.count_terms.specs.Choosing.{text_order}
-use Rattle.vote_terms.specs.Votes.{ReadVote}
-use Rattle.vote_terms.specs.declared.entry.EntryFacts.{EntryFacts}
+use Rattle.vote_terms.specs.{Votes.ReadVote, declared.entry.EntryFacts.EntryFacts}
 use Rattle.consensus_terms.specs.declared.consensus.SourceLine.{SourceLine}
-use Rattle.compute_terms.specs.Bandwidths.{cap_of}
-use Rattle.compute_terms.specs.Consensuses.{source_of}
-use Rattle.compute_terms.specs.Identities.{eds_of, included_part}
-use Rattle.compute_terms.specs.Lines.{policy_with}
-use Rattle.compute_terms.specs.Listings.{identities_in, listings}
-use Rattle.compute_terms.specs.RelayFlags.{router_flags}
-use Rattle.compute_terms.specs.Routers.{belonging_listings, router_of, routerline_of, routers}
-use Rattle.compute_terms.specs.Tuples.{Tuple, chosen_tuple}
-use Rattle.computed_laws.specs.WithinLimits.{AllFillLines, FillsLines, HasLineTexts}
-use Rattle.computed_laws.proofs.FactItems.{HasTexts}
-use Rattle.computed_laws.proofs.Kept.{All-filter_map}
-use Rattle.computed_laws.proofs.RelayEntries.{AllEntries, chosen_of, value_if}
+use Rattle.compute_terms.specs.{Bandwidths.cap_of, Consensuses.source_of, Identities.{eds_of, included_part}}
+use Rattle.compute_terms.specs.{Lines.policy_with, Listings.{identities_in, listings}, RelayFlags.router_flags}
+use Rattle.compute_terms.specs.{Routers.{belonging_listings, router_of, routerline_of, routers}, Tuples.Tuple}
+use Rattle.compute_terms.specs.Tuples.{chosen_tuple}
+use Rattle.computed_laws.{specs.WithinLimits.{AllFillLines, FillsLines, HasLineTexts}, proofs.FactItems.HasTexts}
+use Rattle.computed_laws.proofs.{Kept.All-filter_map, RelayEntries.{AllEntries, chosen_of, value_if}}
 use Rattle.computed_laws.proofs.RelayLines.{line_within}
 
 everywhere : {X : Type 0} (P : X → Type 0) (list : List X) → ((x : X) → P x) → All P list

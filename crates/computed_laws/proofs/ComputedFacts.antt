@@ -1,34 +1,23 @@
 -- What is computed of votes in range is in range, and its text is read again.
-use Rattle.std.proofs.Common.{ℕ, List, Option}
+use Rattle.std.proofs.{Common.{ℕ, List, Option}, lemmas.List.{Elements.{All-filter, All-weaker}, Kept.AllPairs-filter}}
 use Rattle.std.specs.Prelude.{All, IfSome}
-use Rattle.std.proofs.lemmas.List.Elements.{All-filter, All-weaker}
 use Rattle.dir_bytes.specs.Causes.{last_moment}
 use Rattle.list_values.specs.declared.named.Named.{Named}
 use Rattle.value_laws.specs.Ranges.{AreProtocolsInRange, AreVersionsInRange}
-use Rattle.vote_terms.specs.Votes.{ReadVote}
-use Rattle.vote_terms.specs.declared.lists.VoteLists.{VoteLists}
+use Rattle.vote_terms.specs.{Votes.ReadVote, declared.lists.VoteLists.VoteLists}
 use Rattle.vote_laws.specs.Again as votes_
 use Rattle.consensus_terms.specs.Routers.{is_listed}
-use Rattle.consensus_laws.specs.Again.{AreListsInRange, IsRouterInRange}
-use Rattle.consensus_laws.proofs.SignedParts.{computed_again}
+use Rattle.consensus_laws.{specs.Again.{AreListsInRange, IsRouterInRange}, proofs.SignedParts.computed_again}
 use Rattle.bandwidth_rules.specs.Limits.{unmeasured_limit}
-use Rattle.compute_terms.specs.Consensuses.{consensus}
-use Rattle.compute_terms.specs.Lists.{listed_params, lists_of}
-use Rattle.compute_terms.specs.Methods.{chosen_method, listed_methods}
-use Rattle.compute_terms.specs.Routers.{routers}
+use Rattle.compute_terms.specs.{Consensuses.consensus, Lists.{listed_params, lists_of}, Methods.chosen_method}
+use Rattle.compute_terms.specs.{Methods.listed_methods, Routers.routers}
 use Rattle.computed_laws.specs.Computed.{AreVotesInRange, ComputedFactsAreInRange, ComputedTextsAreReadAgain}
-use Rattle.computed_laws.specs.Computed.{IsVoteInRange, ReadableVotesAreInRange}
-use Rattle.std.proofs.lemmas.List.Kept.{AllPairs-filter}
-use Rattle.computed_laws.proofs.KnownFlags.{KnowNames, known_in_range}
-use Rattle.computed_laws.proofs.ListedParams.{params_in_range, protocols_in_range}
-use Rattle.computed_laws.proofs.ListedRandoms.{random_in_range}
+use Rattle.computed_laws.{specs.Computed.{IsVoteInRange, ReadableVotesAreInRange}, proofs.KnownFlags.KnowNames}
+use Rattle.computed_laws.proofs.{KnownFlags.known_in_range, ListedParams.{params_in_range, protocols_in_range}}
+use Rattle.computed_laws.proofs.{ListedRandoms.random_in_range, ListedVersions.versions_in_range}
+use Rattle.computed_laws.proofs.{RelayEntries.AllEntries, RelayOrder.{Before, relays_ascend, relays_in_range}}
+use Rattle.computed_laws.proofs.{SaidFacts.{facts_said, method_within}, Sources.sources_in_range, Times.time_within}
 use Rattle.value_groups.specs.declared.line.RandomLine.TheVariants as line
-use Rattle.computed_laws.proofs.ListedVersions.{versions_in_range}
-use Rattle.computed_laws.proofs.RelayEntries.{AllEntries}
-use Rattle.computed_laws.proofs.RelayOrder.{Before, relays_ascend, relays_in_range}
-use Rattle.computed_laws.proofs.SaidFacts.{facts_said, method_within}
-use Rattle.computed_laws.proofs.Sources.{sources_in_range}
-use Rattle.computed_laws.proofs.Times.{time_within}
 
 pub readable_in_range : ReadableVotesAreInRange
 readable_in_range facts is = record {

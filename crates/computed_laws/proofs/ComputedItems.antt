@@ -1,41 +1,31 @@
 -- What is computed of votes that can be read may be written, but for limits, and within these it is read again.
-use Rattle.std.proofs.Common.{List, [], ◌∷◌, map, refl}
-use Rattle.std.specs.Prelude.{All, IfSome}
+use Rattle.std.proofs.{Common.{List, [], ◌∷◌, map, refl}, lemmas.List.Elements.{All-cons, All-filter, All-head}}
+use Rattle.std.{proofs.lemmas.List.Elements.{All-map, All-nil, All-tail, All-weaker}, specs.Prelude.{All, IfSome}}
 use Rattle.std.specs.List.{join_with_byte}
-use Rattle.std.proofs.lemmas.List.Elements.{All-cons, All-filter, All-head, All-map, All-nil, All-tail, All-weaker}
 use Rattle.item_terms.specs.Bytes.{space}
 use Rattle.dirdoc_grammar.specs.Writing.{IsLineRest}
-use Rattle.grammar_laws.specs.Written.{IsItem}
-use Rattle.grammar_laws.proofs.LineRests.{rest_of_nothing}
+use Rattle.grammar_laws.{specs.Written.IsItem, proofs.LineRests.rest_of_nothing}
 use Rattle.frame_terms.specs.declared.keyword.Keyword.TheVariants as the
 use Rattle.vote_terms.specs.Votes.{ReadVote}
 use Rattle.vote_laws.specs.Again as vote_laws
-use Rattle.consensus_terms.specs.Flavours.{facts_in, moment_of_all, router_at}
-use Rattle.consensus_terms.specs.Routers.{is_listed}
-use Rattle.consensus_terms.specs.Signed.{in_order, signature_item}
-use Rattle.consensus_terms.specs.Weights.{weight_words}
-use Rattle.consensus_terms.specs.declared.consensus.SourceLine.{SourceLine}
-use Rattle.consensus_terms.specs.declared.router.Routerline.{Routerline}
-use Rattle.consensus_terms.specs.declared.signature.SignatureLine.{SignatureLine}
+use Rattle.consensus_terms.specs.{Flavours.{facts_in, moment_of_all, router_at}, Routers.is_listed, Signed.in_order}
+use Rattle.consensus_terms.specs.{Signed.signature_item, Weights.weight_words, declared.consensus.SourceLine.SourceLine}
+use Rattle.consensus_terms.specs.declared.{router.Routerline.Routerline, signature.SignatureLine.SignatureLine}
 use Rattle.consensus_doc.specs.Reading.{max_consensus}
-use Rattle.consensus_laws.specs.Again.{IsAuthorityInRange, IsRouterInRange, IsSignatureInRange}
-use Rattle.consensus_laws.specs.Items.{consensus_items, listed, router_items, source_items}
-use Rattle.consensus_laws.proofs.SignatureOrder.{each_in_order}
+use Rattle.consensus_laws.specs.{Again.{IsAuthorityInRange, IsRouterInRange, IsSignatureInRange}, Items.consensus_items}
+use Rattle.consensus_laws.{specs.Items.{listed, router_items, source_items}, proofs.SignatureOrder.each_in_order}
 use Rattle.bandwidth_rules.specs.Limits.{unmeasured_limit}
-use Rattle.compute_terms.specs.Consensuses.{consensus, source_of}
-use Rattle.compute_terms.specs.Lists.{listed_params}
-use Rattle.compute_terms.specs.Methods.{chosen_method}
+use Rattle.compute_terms.specs.{Consensuses.{consensus, source_of}, Lists.listed_params, Methods.chosen_method}
 use Rattle.compute_terms.specs.Routers.{routers}
 use Rattle.vote_laws.proofs.MayWrite.{items_writable}
-use Rattle.computed_laws.specs.Computed.{AreVotesInRange, IsVoteInRange, signed_consensus}
-use Rattle.computed_laws.specs.WithinLimits.{AllFillLines, ComputedItemsAreItems, FillsLines, IsSignature}
-use Rattle.computed_laws.specs.WithinLimits.{ConsensusesOfReadableVotesAreReadAgain, ConsensusesWithinLimitsAreReadAgain}
-use Rattle.computed_laws.proofs.ChosenTexts.{contacts_fill, relays_fill}
-use Rattle.computed_laws.proofs.ComputedFacts.{facts_in_range, readable_in_range, texts_again}
-use Rattle.computed_laws.proofs.FactItems.{HasTexts, preamble_are, router_are, signature_is, source_are}
-use Rattle.computed_laws.proofs.SaidFacts.{facts_said}
-use Rattle.computed_laws.proofs.Forms.{AreItems, after, bare_are, bare_is, each_are, ◌&◌}
-use Rattle.computed_laws.proofs.VoteLines.{readable_fill}
+use Rattle.computed_laws.specs.{Computed.{AreVotesInRange, IsVoteInRange, signed_consensus}, WithinLimits.AllFillLines}
+use Rattle.computed_laws.specs.WithinLimits.{ComputedItemsAreItems, FillsLines, IsSignature}
+use Rattle.computed_laws.specs.WithinLimits.{ConsensusesOfReadableVotesAreReadAgain}
+use Rattle.computed_laws.{specs.WithinLimits.ConsensusesWithinLimitsAreReadAgain, proofs.ChosenTexts.contacts_fill}
+use Rattle.computed_laws.proofs.{ChosenTexts.relays_fill, ComputedFacts.{facts_in_range, readable_in_range}}
+use Rattle.computed_laws.proofs.{ComputedFacts.texts_again, FactItems.{HasTexts, preamble_are, router_are}}
+use Rattle.computed_laws.proofs.{FactItems.{signature_is, source_are}, SaidFacts.facts_said, Forms.{AreItems, after}}
+use Rattle.computed_laws.proofs.{Forms.{bare_are, bare_is, each_are, ◌&◌}, VoteLines.readable_fill}
 use Rattle.computed_laws.proofs.WeightWords.{weights_fill}
 
 -- ---- the items

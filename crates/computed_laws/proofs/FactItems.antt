@@ -1,55 +1,37 @@
 -- The items of a consensus that says what can be read, and whose texts fill lines, may be written but for limits.
 use Rattle.std.proofs.Common.{◌≡◌, ℕ, Bool, true, false, List, [], ◌∷◌, ◌++◌, Option, Some, None, refl, sym, subst}
-use Rattle.std.proofs.Common.{append_assoc}
-use Rattle.std.specs.Prelude.{All, IfSome, codes, decimal, option_map, if◌then◌else◌}
-use Rattle.std.specs.List.{join_with_byte}
+use Rattle.std.proofs.{Common.append_assoc, lemmas.{List.Elements.{All-append, All-cons, All-nil}, Option.IfSome_then}}
+use Rattle.std.specs.{Prelude.{All, IfSome, codes, decimal, option_map, if◌then◌else◌}, List.join_with_byte}
 use Rattle.std.specs.Str.{bytes_eq}
-use Rattle.std.proofs.lemmas.List.Elements.{All-append, All-cons, All-nil}
-use Rattle.std.proofs.lemmas.Option.{IfSome_then}
 use Rattle.item_terms.specs.Bytes.{space}
 use Rattle.base64.specs.GeneralPurpose.{IsBytes}
 use Rattle.dir_bytes.specs.FieldTexts.{address_text, base64_text, hex_text, moment_text}
-use Rattle.dir_values.specs.FlagSets.{set_text}
-use Rattle.dir_values.specs.declared.digest.Digest2.{Digest2}
+use Rattle.dir_values.specs.{FlagSets.set_text, declared.digest.Digest2.Digest2}
 use Rattle.dirdoc_grammar.specs.Writing.{IsLineRest}
-use Rattle.grammar_laws.specs.Written.{IsItem}
-use Rattle.grammar_laws.proofs.LineRests.{rest_of_argument}
+use Rattle.grammar_laws.{specs.Written.IsItem, proofs.LineRests.rest_of_argument}
 use Rattle.frame_terms.specs.declared.keyword.Keyword.TheVariants as the
 use Rattle.frame_values.specs.Parts.{moment_of}
-use Rattle.frame_laws.proofs.WordTexts.{AreWords, IsWord, two_words, word_of_address, word_of_identity, word_of_nickname}
-use Rattle.frame_laws.proofs.WordTexts.{word_of_number, words_of_flags}
-use Rattle.list_values.specs.Params.{params_text}
-use Rattle.list_values.specs.Protocols.{protocols_text}
-use Rattle.list_values.specs.VersionLists.{versions_text}
-use Rattle.value_laws.proofs.LineWords.{rest_of_words}
-use Rattle.value_laws.proofs.ParamsAgain.{params_fill}
-use Rattle.value_laws.proofs.ProtocolsAgain.{protocols_fill}
+use Rattle.frame_laws.proofs.WordTexts.{AreWords, IsWord, two_words, word_of_address, word_of_identity}
+use Rattle.frame_laws.proofs.WordTexts.{word_of_nickname, word_of_number, words_of_flags}
+use Rattle.list_values.specs.{Params.params_text, Protocols.protocols_text, VersionLists.versions_text}
+use Rattle.value_laws.proofs.{LineWords.rest_of_words, ParamsAgain.params_fill, ProtocolsAgain.protocols_fill}
 use Rattle.value_laws.proofs.VersionsAgain.{versions_fill}
-use Rattle.group_laws.specs.LineAgain.{AreFlagsInRange, IsRandomInRange}
-use Rattle.value_groups.specs.Values.{random_text}
-use Rattle.value_groups.specs.declared.value.SharedRandom.{SharedRandom}
+use Rattle.group_laws.specs.{LineAgain.{AreFlagsInRange, IsRandomInRange}, Ranges.IsAddressInRange}
+use Rattle.group_laws.proofs.{WrittenMicros.word_of_thirty_two, WrittenRelays.word_of_twenty}
+use Rattle.value_groups.specs.{Values.random_text, declared.value.SharedRandom.SharedRandom}
 use Rattle.vote_laws.proofs.VoteRandoms.{random_fills}
-use Rattle.group_laws.specs.Ranges.{IsAddressInRange}
-use Rattle.group_laws.proofs.WrittenMicros.{word_of_thirty_two}
-use Rattle.group_laws.proofs.WrittenRelays.{word_of_twenty}
-use Rattle.consensus_terms.specs.Lines.{named_text}
-use Rattle.consensus_terms.specs.Routers.{digest_words, name_words, place_words, unmeasured_words}
-use Rattle.consensus_terms.specs.Signed.{signature_item}
-use Rattle.consensus_terms.specs.Texts.{source_words, version_words}
-use Rattle.consensus_terms.specs.declared.consensus.ConsensusFacts.{ConsensusFacts}
-use Rattle.consensus_terms.specs.declared.consensus.ConsensusLists.{ConsensusLists}
-use Rattle.consensus_terms.specs.declared.consensus.SourceLine.{SourceLine}
-use Rattle.consensus_terms.specs.declared.flavour.Flavour.{Flavour}
-use Rattle.consensus_terms.specs.declared.flavour.Flavour.TheVariants.{Ns, Microdesc}
-use Rattle.consensus_terms.specs.declared.router.Bandwidth.{Bandwidth}
-use Rattle.consensus_terms.specs.declared.router.Routerline.{Routerline}
-use Rattle.consensus_terms.specs.declared.signature.SignatureLine.{SignatureLine}
+use Rattle.consensus_terms.specs.{Lines.named_text, Routers.{digest_words, name_words, place_words, unmeasured_words}}
+use Rattle.consensus_terms.specs.{Signed.signature_item, Texts.{source_words, version_words}}
+use Rattle.consensus_terms.specs.declared.consensus.{ConsensusFacts.ConsensusFacts, ConsensusLists.ConsensusLists}
+use Rattle.consensus_terms.specs.declared.{consensus.SourceLine.SourceLine, flavour.Flavour.{Flavour, TheVariants.Ns}}
+use Rattle.consensus_terms.specs.declared.{flavour.Flavour.TheVariants.Microdesc, router.Bandwidth.Bandwidth}
+use Rattle.consensus_terms.specs.declared.{router.Routerline.Routerline, signature.SignatureLine.SignatureLine}
 use Rattle.consensus_laws.specs.Again.{AreFactsInRange, AreListsInRange, IsAuthorityInRange, IsMicroInRange}
-use Rattle.consensus_laws.specs.Again.{IsRouterInRange, IsSignatureInRange}
-use Rattle.consensus_laws.specs.Items.{kind_items, list_if, m_text, p_text, preamble_items, protocol_items, router_items}
-use Rattle.consensus_laws.specs.Items.{router_words, source_items, time_items, version_items, w_text}
-use Rattle.computed_laws.proofs.Forms.{AreItems, IsFilled, after, bare_are, bare_is, if_are, join_filled}
-use Rattle.computed_laws.proofs.Forms.{moment_filled, named_word, word_filled, words_filled, ◌&◌}
+use Rattle.consensus_laws.specs.{Again.{IsRouterInRange, IsSignatureInRange}, Items.{kind_items, list_if, m_text}}
+use Rattle.consensus_laws.specs.Items.{p_text, preamble_items, protocol_items, router_items, router_words, source_items}
+use Rattle.consensus_laws.specs.Items.{time_items, version_items, w_text}
+use Rattle.computed_laws.proofs.Forms.{AreItems, IsFilled, after, bare_are, bare_is, if_are, join_filled, moment_filled}
+use Rattle.computed_laws.proofs.Forms.{named_word, word_filled, words_filled, ◌&◌}
 
 -- ---- the preamble
 

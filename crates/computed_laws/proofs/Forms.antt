@@ -1,16 +1,13 @@
 -- Items that may be written but for limits, and what fills a line.
-use Rattle.std.proofs.Common.{◌≡◌, ℕ, ◌<◌, ◌/◌, ◌%◌, List, [], ◌∷◌, ◌++◌, length, Option, Some, None, refl, subst, arith}
-use Rattle.std.proofs.Common.{length-append}
-use Rattle.std.specs.Prelude.{All, IfSome, decimal}
+use Rattle.std.proofs.Common.{◌≡◌, ℕ, ◌<◌, ◌/◌, ◌%◌, List, [], ◌∷◌, ◌++◌, length, Option, Some, None, refl, subst}
+use Rattle.std.proofs.{Common.{arith, length-append}, lemmas.List.Elements.{All-append, All-cons, All-head, All-nil}}
+use Rattle.std.{proofs.lemmas.List.Elements.{All-tail, All-weaker}, specs.Prelude.{All, IfSome, decimal}}
 use Rattle.std.specs.List.{flat_map, join_with_byte}
-use Rattle.std.proofs.lemmas.List.Elements.{All-append, All-cons, All-head, All-nil, All-tail, All-weaker}
 use Rattle.item_terms.specs.Bytes.{space}
 use Rattle.dir_bytes.specs.FieldTexts.{clock_text, date_text, moment_text}
 use Rattle.dirdoc_grammar.specs.Writing.{IsKeyword, IsLineRest, NewItem}
-use Rattle.grammar_laws.specs.Written.{IsItem}
-use Rattle.grammar_laws.proofs.LineRests.{joined, rest_of_argument, rest_of_joined}
-use Rattle.frame_terms.specs.Keywords.{text_of}
-use Rattle.frame_terms.specs.declared.keyword.Keyword.{Keyword}
+use Rattle.grammar_laws.{specs.Written.IsItem, proofs.LineRests.{joined, rest_of_argument, rest_of_joined}}
+use Rattle.frame_terms.specs.{Keywords.text_of, declared.keyword.Keyword.Keyword}
 use Rattle.frame_values.specs.Items.{bare, item_if}
 use Rattle.frame_laws.proofs.WordTexts.{AreWords, IsWord, both_dark, bytes_of, is_word, length-word, number_dark}
 use Rattle.frame_laws.proofs.WordTexts.{two_words, word_of_clock, word_of_date}

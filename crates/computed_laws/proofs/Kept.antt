@@ -1,10 +1,8 @@
 -- What holds of the members of lists holds of what is found in them, kept of them and made of them.
 use Rattle.std.proofs.Common.{Bool, true, false, List, [], ◌∷◌, Option, Some, None, map}
-use Rattle.std.specs.Prelude.{All, AllPairs, IfSome, unwrap_or, filter, option_map, if◌then◌else◌}
-use Rattle.std.specs.List.{cons_option, filter_map, find, flat_map}
-use Rattle.std.proofs.lemmas.List.Elements.{All-append, All-cons, All-filter, All-head, All-nil, All-tail}
-use Rattle.std.proofs.lemmas.List.Elements.{All-weaker}
-use Rattle.std.proofs.lemmas.Option.{IfSome_then}
+use Rattle.std.proofs.lemmas.List.Elements.{All-append, All-cons, All-filter, All-head, All-nil, All-tail, All-weaker}
+use Rattle.std.{proofs.lemmas.Option.IfSome_then, specs.Prelude.{All, AllPairs, IfSome, unwrap_or, filter, option_map}}
+use Rattle.std.specs.{Prelude.if◌then◌else◌, List.{cons_option, filter_map, find, flat_map}}
 use Rattle.dir_values.proofs.Orders.{AllPairs-cons, AllPairs-head, AllPairs-nil, AllPairs-tail}
 
 module _ {A : Type 0} (P : A → Type 0) where

@@ -1,14 +1,12 @@
 -- The flags that a consensus knows and those of its relays are names, ascending.
-use Rattle.std.proofs.Common.{◌≡◌, ℕ, Bool, true, false, List, [], ◌∷◌, ◌++◌, refl}
-use Rattle.std.specs.Prelude.{All, codes, filter, if◌then◌else◌}
-use Rattle.std.proofs.lemmas.List.Elements.{All-append, All-cons, All-filter, All-nil}
-use Rattle.dir_values.specs.FlagSets.{as_set, has_flag, is_name}
-use Rattle.dir_values.proofs.Flags.{Ascend-as_set, Ascend-with_flag}
+use Rattle.std.proofs.{Common.{◌≡◌, ℕ, Bool, true, false, List, [], ◌∷◌, ◌++◌, refl}, lemmas.List.Elements.All-append}
+use Rattle.std.{proofs.lemmas.List.Elements.{All-cons, All-filter, All-nil}, specs.Prelude.{All, codes, filter}}
+use Rattle.std.specs.Prelude.{if◌then◌else◌}
+use Rattle.dir_values.{specs.FlagSets.{as_set, has_flag, is_name}, proofs.Flags.{Ascend-as_set, Ascend-with_flag}}
 use Rattle.group_laws.specs.LineAgain.{AreFlagsInRange}
 use Rattle.vote_terms.specs.Votes.{ReadVote}
-use Rattle.compute_terms.specs.Flags.{known_flags, listed_flags, with_own_flags}
-use Rattle.compute_terms.specs.Listings.{Listing}
-use Rattle.compute_terms.specs.RelayFlags.{is_set, middle_flags, router_flags, set_flags, suits_middle}
+use Rattle.compute_terms.specs.{Flags.{known_flags, listed_flags, with_own_flags}, Listings.Listing, RelayFlags.is_set}
+use Rattle.compute_terms.specs.RelayFlags.{middle_flags, router_flags, set_flags, suits_middle}
 use Rattle.compute_terms.specs.declared.identity.EdPart.{EdPart}
 use Rattle.vote_laws.proofs.FlagSets.{All-as_set, All-with_flag}
 use Rattle.computed_laws.proofs.Kept.{All-flat_map}

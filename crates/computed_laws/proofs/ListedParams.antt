@@ -1,30 +1,20 @@
 -- The params and the protocols that votes agree on are in range.
-use Rattle.std.proofs.Common.{◌≡◌, ℕ, Bool, true, List, Option, pos, subst, arith}
-use Rattle.std.specs.Prelude.{All, IfSome, ℤ, FitsSigned, filter}
-use Rattle.std.specs.Int.{w32}
-use Rattle.std.specs.List.{find}
-use Rattle.std.specs.Ordering.{int_cmp}
-use Rattle.std.proofs.lemmas.List.Elements.{All-filter, All-map, All-nil, All-weaker}
-use Rattle.std.proofs.lemmas.Option.{IfSome_then}
-use Rattle.count_terms.specs.Counts.{middle}
-use Rattle.count_terms.specs.Medians.{low_median_by, stands_by}
+use Rattle.std.proofs.{Common.{◌≡◌, ℕ, Bool, true, List, Option, pos, subst, arith}, lemmas.List.Elements.All-filter}
+use Rattle.std.{proofs.lemmas.{List.Elements.{All-map, All-nil, All-weaker}, Option.IfSome_then}, specs.Prelude.All}
+use Rattle.std.specs.{Prelude.{IfSome, ℤ, FitsSigned, filter}, Int.w32, List.find, Ordering.int_cmp}
+use Rattle.count_terms.specs.{Counts.middle, Medians.{low_median_by, stands_by}}
 use Rattle.dir_values.specs.FlagSets.{is_name}
-use Rattle.list_values.specs.declared.named.Named.{Named}
-use Rattle.list_values.specs.Maps.{named_value}
-use Rattle.list_values.specs.NumberSets.{numbers_that}
-use Rattle.value_laws.specs.Ranges.{AreNumbersInRange, AreParamsInRange, AreProtocolsInRange, IsParamInRange, IsProtocolInRange}
-use Rattle.value_laws.proofs.NumbersAlone.{kept_in_range}
+use Rattle.list_values.specs.{declared.named.Named.Named, Maps.named_value, NumberSets.numbers_that}
+use Rattle.value_laws.specs.Ranges.{AreNumbersInRange, AreParamsInRange, AreProtocolsInRange, IsParamInRange}
+use Rattle.value_laws.{specs.Ranges.IsProtocolInRange, proofs.NumbersAlone.kept_in_range}
 use Rattle.field_votes.specs.Lists.{all_names, is_listed_number, is_listed_param, is_listed_protocol, listed_numbers}
-use Rattle.field_votes.specs.Lists.{median_param, values_in}
-use Rattle.field_votes.specs.Private.{mask_that}
-use Rattle.field_votes.proofs.ListedMasks.{numbers_that_pass}
-use Rattle.field_votes.proofs.NamedLists.{ascend_among}
-use Rattle.vote_terms.specs.Votes.{ReadVote}
-use Rattle.vote_terms.specs.declared.lists.VoteLists.{VoteLists}
+use Rattle.field_votes.specs.{Lists.{median_param, values_in}, Private.mask_that}
+use Rattle.field_votes.proofs.{ListedMasks.numbers_that_pass, NamedLists.ascend_among}
+use Rattle.vote_terms.specs.{Votes.ReadVote, declared.lists.VoteLists.VoteLists}
 use Rattle.vote_laws.specs.Again.{AreVoteParams}
 use Rattle.compute_terms.specs.Lists.{listed_params, listed_protocols, members_of}
-use Rattle.computed_laws.proofs.Kept.{IfSome-find, unwrapped}
-use Rattle.computed_laws.proofs.NamedValues.{HasName, members_in, names_ascend, names_in_range, values_within}
+use Rattle.computed_laws.proofs.{Kept.{IfSome-find, unwrapped}, NamedValues.{HasName, members_in, names_ascend}}
+use Rattle.computed_laws.proofs.NamedValues.{names_in_range, values_within}
 
 abbrev IsName : List ℕ → Type 0
 IsName name = is_name name ≡ true

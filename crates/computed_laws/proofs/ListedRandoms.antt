@@ -1,7 +1,5 @@
 -- The shared random values that votes agree on are in range.
-use Rattle.std.proofs.Common.{List, ℕ}
-use Rattle.std.specs.Prelude.{All, IfSome}
-use Rattle.std.specs.List.{filter_map}
+use Rattle.std.{proofs.Common.{List, ℕ}, specs.{Prelude.{All, IfSome}, List.filter_map}}
 use Rattle.group_laws.specs.LineAgain.{IsRandomInRange}
 use Rattle.value_groups.specs.declared.line.RandomLine.{RandomLine}
 use Rattle.compute_terms.specs.Randoms.{agreed_random, is_agreed, random_of}

@@ -1,16 +1,12 @@
 -- The versions that votes agree on are versions.
-use Rattle.std.proofs.Common.{◌≡◌, ℕ, true, List, [], ◌∷◌, Option, map}
-use Rattle.std.specs.Prelude.{All, IfSome}
-use Rattle.std.specs.declared.cmp.Ordering.{Ordering}
-use Rattle.std.specs.declared.cmp.Ordering.TheVariants.{Less, Equal, Greater}
-use Rattle.std.specs.List.{flat_map, fold}
-use Rattle.std.specs.Ordering.{match_ordering}
-use Rattle.std.proofs.lemmas.List.Elements.{All-cons, All-filter, All-head, All-map, All-nil, All-tail, All-weaker}
+use Rattle.std.proofs.{Common.{◌≡◌, ℕ, true, List, [], ◌∷◌, Option, map}, lemmas.List.Elements.{All-cons, All-filter}}
+use Rattle.std.{proofs.lemmas.List.Elements.{All-head, All-map, All-nil, All-tail, All-weaker}, specs.Prelude.All}
+use Rattle.std.specs.{Prelude.IfSome, declared.cmp.Ordering.{Ordering, TheVariants.{Less, Equal, Greater}}}
+use Rattle.std.specs.{List.{flat_map, fold}, Ordering.match_ordering}
 use Rattle.list_values.specs.VersionLists.{is_version}
 use Rattle.value_laws.specs.Ranges.{AreVersionsInRange}
 use Rattle.field_votes.specs.Versions.{all_versions, is_listed_by_most, lists_there, text_order, with_version}
-use Rattle.vote_terms.specs.Votes.{ReadVote}
-use Rattle.vote_terms.specs.declared.lists.VoteLists.{VoteLists}
+use Rattle.vote_terms.specs.{Votes.ReadVote, declared.lists.VoteLists.VoteLists}
 use Rattle.compute_terms.specs.Lists.{listed_versions}
 use Rattle.computed_laws.proofs.Kept.{All-filter_map, All-flat_map}
 

@@ -1,7 +1,5 @@
 -- A low median is one of the numbers, or 0 where there is none.
-use Rattle.std.proofs.Common.{ℕ, ◌≤◌, List, arith}
-use Rattle.std.specs.Prelude.{All}
-use Rattle.std.specs.List.{find}
+use Rattle.std.{proofs.Common.{ℕ, ◌≤◌, List, arith}, specs.{Prelude.All, List.find}}
 use Rattle.count_terms.specs.Counts.{low_median, member_at, middle, stands_at}
 use Rattle.computed_laws.proofs.Kept.{IfSome-find, unwrapped}
 

@@ -1,16 +1,11 @@
 -- What votes say of names: the names are such, and what holds of each value holds of those for one name.
-use Rattle.std.proofs.Common.{◌≡◌, ℕ, true, List, [], Option}
-use Rattle.std.specs.Prelude.{All, IfSome, unwrap_or}
-use Rattle.std.specs.List.{find, flat_map}
-use Rattle.std.proofs.lemmas.List.Elements.{All-map, All-weaker}
+use Rattle.std.proofs.{Common.{◌≡◌, ℕ, true, List, [], Option}, lemmas.List.Elements.{All-map, All-weaker}}
+use Rattle.std.specs.{Prelude.{All, IfSome, unwrap_or}, List.{find, flat_map}}
 use Rattle.dir_values.specs.FlagSets as flag_sets
-use Rattle.dir_values.specs.FlagSets.{is_name}
-use Rattle.dir_values.proofs.Flags.{Ascend-as_set}
-use Rattle.list_values.specs.declared.named.Named.{Named}
-use Rattle.list_values.specs.Maps.{has_name, names_of, value_at}
+use Rattle.dir_values.{specs.FlagSets.is_name, proofs.Flags.Ascend-as_set}
+use Rattle.list_values.specs.{declared.named.Named.Named, Maps.{has_name, names_of, value_at}}
 use Rattle.field_votes.specs.Lists.{all_names, values_in}
-use Rattle.vote_terms.specs.Votes.{ReadVote}
-use Rattle.vote_terms.specs.declared.lists.VoteLists.{VoteLists}
+use Rattle.vote_terms.specs.{Votes.ReadVote, declared.lists.VoteLists.VoteLists}
 use Rattle.compute_terms.specs.Lists.{members_of}
 use Rattle.vote_laws.proofs.FlagSets.{All-as_set}
 use Rattle.computed_laws.proofs.Kept.{All-filter_map, All-flat_map, IfSome-find, IfSome-map, unwrapped}

@@ -1,30 +1,20 @@
 -- What votes say of one relay: its entries, and what is chosen among their values.
 use Rattle.std.proofs.Common.{ℕ, ◌≤◌, Bool, true, false, List, Option, Some, None, map}
-use Rattle.std.specs.Prelude.{All, IfSome, option_and_then, if◌then◌else◌}
-use Rattle.std.specs.List.{filter_map, find}
-use Rattle.std.specs.Ordering.{is_eq}
-use Rattle.std.specs.Str.{bytes_eq}
+use Rattle.std.{proofs.lemmas.List.Elements.{All-filter, All-map, All-weaker}, specs.Prelude.{All, IfSome}}
+use Rattle.std.specs.{Prelude.{option_and_then, if◌then◌else◌}, List.{filter_map, find}, Ordering.is_eq, Str.bytes_eq}
 use Rattle.std.specs.declared.cmp.Ordering.{Ordering}
-use Rattle.std.proofs.lemmas.List.Elements.{All-filter, All-map, All-weaker}
-use Rattle.dir_values.specs.declared.digest.Digest1.{Digest1}
-use Rattle.dir_values.specs.declared.digest.Digest2.{Digest2}
-use Rattle.dir_values.specs.declared.digest.Fingerprint.{Fingerprint}
+use Rattle.dir_values.specs.declared.digest.{Digest1.Digest1, Digest2.Digest2, Fingerprint.Fingerprint}
 use Rattle.dir_values.specs.Digests.{same_identity}
 use Rattle.relay_entries.specs.declared.said.Bandwidths.{Bandwidths}
 use Rattle.group_laws.specs.Ranges.{AreBandwidthsInRange, AreThirtyTwo, IsAddressInRange}
 use Rattle.count_terms.specs.Choosing.{chosen, leads, text_order}
-use Rattle.vote_terms.specs.Votes.{ReadVote}
-use Rattle.vote_terms.specs.Entries.{bandwidth_of, first_address, gives, measured_of, micro_for}
-use Rattle.vote_terms.specs.declared.entry.EntryFacts.{EntryFacts}
-use Rattle.vote_terms.specs.declared.entry.MicroFacts.{MicroFacts}
+use Rattle.vote_terms.specs.{Votes.ReadVote, Entries.{bandwidth_of, first_address, gives, measured_of, micro_for}}
+use Rattle.vote_terms.specs.declared.entry.{EntryFacts.EntryFacts, MicroFacts.MicroFacts}
 use Rattle.vote_laws.specs.Again.{IsEntryInRange, IsMicroInRange}
-use Rattle.compute_terms.specs.Bandwidths.{bandwidth_values, measured_values}
-use Rattle.compute_terms.specs.Identities.{belongs}
-use Rattle.compute_terms.specs.Lines.{address_with, chosen_address, chosen_micro, digest_order, micro_with}
-use Rattle.compute_terms.specs.Listings.{Listing, entries_of, entry_of, listing_in, listings}
-use Rattle.compute_terms.specs.Routers.{belonging_listings}
-use Rattle.compute_terms.specs.Tuples.{Tuple, chosen_tuple, tuple_of, tuple_order}
-use Rattle.compute_terms.specs.declared.identity.EdPart.{EdPart}
+use Rattle.compute_terms.specs.{Bandwidths.{bandwidth_values, measured_values}, Identities.belongs, Lines.address_with}
+use Rattle.compute_terms.specs.{Lines.{chosen_address, chosen_micro, digest_order, micro_with}, Listings.Listing}
+use Rattle.compute_terms.specs.{Listings.{entries_of, entry_of, listing_in, listings}, Routers.belonging_listings}
+use Rattle.compute_terms.specs.{Tuples.{Tuple, chosen_tuple, tuple_of, tuple_order}, declared.identity.EdPart.EdPart}
 use Rattle.computed_laws.proofs.Kept.{All-filter_map, IfSome-find, IfSome-map}
 
 -- ---- the entries

@@ -1,36 +1,25 @@
 -- What a consensus says of one relay is in range.
-use Rattle.std.proofs.Common.{◌≡◌, ℕ, ◌<◌, ◌≤◌, ◌^◌, Bool, true, false, List, [], ◌∷◌, length, Option, Some, None, arith}
-use Rattle.std.specs.Prelude.{All, IfSome, nat_le, option_and_then, option_map, if◌then◌else◌}
-use Rattle.std.proofs.lemmas.Option.{IfSome_then}
+use Rattle.std.proofs.Common.{◌≡◌, ℕ, ◌<◌, ◌≤◌, ◌^◌, Bool, true, false, List, [], ◌∷◌, length, Option, Some, None}
+use Rattle.std.{proofs.{Common.arith, lemmas.Option.IfSome_then}, specs.Prelude.{All, IfSome, nat_le, option_and_then}}
+use Rattle.std.specs.Prelude.{option_map, if◌then◌else◌}
 use Rattle.dir_bytes.specs.Causes.{last_moment}
-use Rattle.dir_values.specs.Names.{is_nickname}
-use Rattle.dir_values.specs.declared.digest.Digest1.{Digest1}
-use Rattle.dir_values.specs.declared.digest.Digest2.{Digest2}
+use Rattle.dir_values.specs.{Names.is_nickname, declared.digest.{Digest1.Digest1, Digest2.Digest2}}
 use Rattle.dir_values.specs.declared.digest.Fingerprint.{Fingerprint}
 use Rattle.frame_values.specs.Ranges.{AreTwenty}
-use Rattle.group_laws.specs.LineAgain.{AreFlagsInRange}
-use Rattle.group_laws.specs.Ranges.{AreThirtyTwo}
+use Rattle.group_laws.specs.{LineAgain.AreFlagsInRange, Ranges.AreThirtyTwo}
 use Rattle.count_terms.specs.Counts.{low_median}
-use Rattle.vote_terms.specs.Votes.{ReadVote}
-use Rattle.vote_terms.specs.declared.entry.EntryFacts.{EntryFacts}
+use Rattle.vote_terms.specs.{Votes.ReadVote, declared.entry.EntryFacts.EntryFacts}
 use Rattle.vote_laws.specs.Again.{IsEntryInRange}
-use Rattle.consensus_terms.specs.declared.flavour.Flavour.{Flavour}
-use Rattle.consensus_terms.specs.declared.flavour.Flavour.TheVariants.{Ns, Microdesc}
-use Rattle.consensus_terms.specs.declared.router.Bandwidth.{Bandwidth}
-use Rattle.consensus_terms.specs.declared.router.Routerline.{Routerline}
+use Rattle.consensus_terms.specs.declared.flavour.Flavour.{Flavour, TheVariants.{Ns, Microdesc}}
+use Rattle.consensus_terms.specs.declared.router.{Bandwidth.Bandwidth, Routerline.Routerline}
 use Rattle.consensus_laws.specs.Again.{IsDigestInRange, IsMicroInRange, IsRouterInRange}
 use Rattle.compute_terms.specs.Bandwidths.{bandwidth_values, cap_of, capped_value, measured_values, measures_needed}
-use Rattle.compute_terms.specs.Bandwidths.{relay_bandwidth, unmeasured_bandwidth}
-use Rattle.compute_terms.specs.Identities.{eds_of, included_part}
-use Rattle.compute_terms.specs.Lines.{chosen_micro}
-use Rattle.compute_terms.specs.Listings.{entries_of, listings}
-use Rattle.compute_terms.specs.RelayFlags.{is_running_and_valid, router_flags}
-use Rattle.compute_terms.specs.Routers.{belonging_listings, router_as, router_of, router_with, routerline_of}
-use Rattle.compute_terms.specs.Tuples.{Tuple, chosen_tuple, tuple_of}
+use Rattle.compute_terms.specs.{Bandwidths.{relay_bandwidth, unmeasured_bandwidth}, Identities.{eds_of, included_part}}
+use Rattle.compute_terms.specs.{Lines.chosen_micro, Listings.{entries_of, listings}, RelayFlags.is_running_and_valid}
+use Rattle.compute_terms.specs.{RelayFlags.router_flags, Routers.{belonging_listings, router_as, router_of}}
+use Rattle.compute_terms.specs.{Routers.{router_with, routerline_of}, Tuples.{Tuple, chosen_tuple, tuple_of}}
 use Rattle.compute_terms.specs.declared.identity.EdPart.{EdPart}
-use Rattle.computed_laws.proofs.Kept.{IfSome-map}
-use Rattle.computed_laws.proofs.KnownFlags.{KnowNames, relay_flags_in_range}
-use Rattle.computed_laws.proofs.Medians.{median_within}
+use Rattle.computed_laws.proofs.{Kept.IfSome-map, KnownFlags.{KnowNames, relay_flags_in_range}, Medians.median_within}
 use Rattle.computed_laws.proofs.RelayEntries.{AllEntries, IsNumber, address_in_range, bandwidths_in_range}
 use Rattle.computed_laws.proofs.RelayEntries.{measured_in_range, members_within, micro_in_range, tuple_within}
 

@@ -1,32 +1,21 @@
 -- The relays that a consensus lists are in range, and ascend by identity.
-use Rattle.std.proofs.Common.{◌≡◌, ℕ, Bool, true, false, List, Option, Some, None, refl}
-use Rattle.std.specs.Prelude.{All, AllPairs, IfSome, option_and_then, option_map, if◌then◌else◌}
-use Rattle.std.specs.List.{flat_map}
-use Rattle.std.proofs.lemmas.List.Elements.{All-map, All-weaker}
-use Rattle.dir_values.specs.Digests.{identity_below}
-use Rattle.dir_values.specs.FlagSets.{as_set}
-use Rattle.dir_values.specs.declared.digest.Fingerprint.{Fingerprint}
+use Rattle.std.proofs.{Common.{◌≡◌, ℕ, Bool, true, false, List, Option, Some, None, refl}, lemmas.List.Elements.All-map}
+use Rattle.std.{proofs.lemmas.List.Elements.All-weaker, specs.Prelude.{All, AllPairs, IfSome, option_and_then}}
+use Rattle.std.specs.{Prelude.{option_map, if◌then◌else◌}, List.flat_map}
+use Rattle.dir_values.specs.{Digests.identity_below, FlagSets.as_set, declared.digest.Fingerprint.Fingerprint}
 use Rattle.dir_values.proofs.Flags.{Ascend-as_set}
 use Rattle.frame_values.specs.Ranges.{AreTwenty}
-use Rattle.vote_terms.specs.Votes.{ReadVote}
-use Rattle.vote_terms.specs.declared.entry.EntryFacts.{EntryFacts}
-use Rattle.vote_laws.specs.Again.{IsEntryInRange}
-use Rattle.consensus_terms.specs.declared.flavour.Flavour.{Flavour}
-use Rattle.consensus_terms.specs.declared.router.Routerline.{Routerline}
+use Rattle.vote_terms.specs.{Votes.ReadVote, declared.entry.EntryFacts.EntryFacts}
+use Rattle.vote_laws.{specs.Again.IsEntryInRange, proofs.{FlagSets.All-as_set, Members.AllPairs-map}}
+use Rattle.consensus_terms.specs.declared.{flavour.Flavour.Flavour, router.Routerline.Routerline}
 use Rattle.consensus_laws.specs.Again.{Ascending, IsRouterInRange}
-use Rattle.compute_terms.specs.Bandwidths.{cap_of}
-use Rattle.compute_terms.specs.Identities.{eds_of, included_part}
-use Rattle.compute_terms.specs.Listings.{Listing, entries_of, identities_in, identities_of, listings}
-use Rattle.compute_terms.specs.RelayFlags.{is_running_and_valid, router_flags}
-use Rattle.compute_terms.specs.Routers.{belonging_listings, router_as, router_of, routerline_of, routers}
-use Rattle.compute_terms.specs.Tuples.{Tuple, chosen_tuple}
+use Rattle.compute_terms.specs.{Bandwidths.cap_of, Identities.{eds_of, included_part}, Listings.{Listing, entries_of}}
+use Rattle.compute_terms.specs.{Listings.{identities_in, identities_of, listings}, RelayFlags.is_running_and_valid}
+use Rattle.compute_terms.specs.{RelayFlags.router_flags, Routers.{belonging_listings, router_as, router_of}}
+use Rattle.compute_terms.specs.{Routers.{routerline_of, routers}, Tuples.{Tuple, chosen_tuple}}
 use Rattle.compute_terms.specs.declared.identity.EdPart.{EdPart}
-use Rattle.vote_laws.proofs.FlagSets.{All-as_set}
-use Rattle.vote_laws.proofs.Members.{AllPairs-map}
-use Rattle.computed_laws.proofs.Kept.{All-filter_map, All-flat_map, AllPairs-filter_map}
-use Rattle.computed_laws.proofs.KnownFlags.{KnowNames}
-use Rattle.computed_laws.proofs.RelayEntries.{AllEntries}
-use Rattle.computed_laws.proofs.RelayLines.{relay_in_range}
+use Rattle.computed_laws.proofs.{Kept.{All-filter_map, All-flat_map, AllPairs-filter_map}, KnownFlags.KnowNames}
+use Rattle.computed_laws.proofs.{RelayEntries.AllEntries, RelayLines.relay_in_range}
 
 -- ---- the identities
 

@@ -1,20 +1,14 @@
 -- What the text of a flavour says is in range where the facts are.
-use Rattle.std.proofs.Common.{◌≡◌, ℕ, ◌≤◌, Bool, true, false, List, [], ◌∷◌, Option, Some, None, refl, sym, ap}
-use Rattle.std.proofs.Common.{arith, subst}
-use Rattle.std.specs.Prelude.{All, IfSome, is_some, map, nat_le, unwrap_or, if◌then◌else◌}
-use Rattle.std.specs.List.{find}
-use Rattle.std.proofs.lemmas.List.Elements.{All-map, All-weaker}
+use Rattle.std.proofs.Common.{◌≡◌, ℕ, ◌≤◌, Bool, true, false, List, [], ◌∷◌, Option, Some, None, refl, sym, ap, arith}
+use Rattle.std.{proofs.{Common.subst, lemmas.List.Elements.{All-map, All-weaker}}, specs.Prelude.{All, IfSome, is_some}}
+use Rattle.std.specs.{Prelude.{map, nat_le, unwrap_or, if◌then◌else◌}, List.find}
 use Rattle.dir_bytes.specs.Causes.{last_moment}
-use Rattle.count_terms.specs.declared.newest.Newest.{Newest}
-use Rattle.count_terms.specs.declared.newest.Newest.TheVariants.{Method33, Method34, Method35}
+use Rattle.count_terms.specs.declared.newest.Newest.{Newest, TheVariants.{Method33, Method34, Method35}}
 use Rattle.field_votes.specs.Methods.{is_supported, method_of}
 use Rattle.consensus_terms.specs.Flavours.{common_moment, facts_in, moment_of_all, router_at}
-use Rattle.consensus_terms.specs.declared.consensus.ConsensusFacts.{ConsensusFacts}
-use Rattle.consensus_terms.specs.declared.flavour.Flavour.{Flavour}
-use Rattle.consensus_terms.specs.declared.flavour.Flavour.TheVariants.{Ns, Microdesc}
-use Rattle.consensus_terms.specs.declared.router.Routerline.{Routerline}
-use Rattle.consensus_laws.specs.Again.{AreFactsInRange, Ascending, IsRouterInRange}
-use Rattle.consensus_laws.specs.Items.{listed}
+use Rattle.consensus_terms.specs.declared.{consensus.ConsensusFacts.ConsensusFacts, flavour.Flavour.Flavour}
+use Rattle.consensus_terms.specs.declared.{flavour.Flavour.TheVariants.{Ns, Microdesc}, router.Routerline.Routerline}
+use Rattle.consensus_laws.specs.{Again.{AreFactsInRange, Ascending, IsRouterInRange}, Items.listed}
 use Rattle.vote_laws.proofs.Members.{AllPairs-map}
 use Rattle.computed_laws.proofs.RelayOrder.{Before}
 

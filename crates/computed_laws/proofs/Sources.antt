@@ -1,7 +1,5 @@
 -- What a consensus says of the authorities whose votes it counts is in range.
-use Rattle.std.proofs.Common.{List, map}
-use Rattle.std.specs.Prelude.{All}
-use Rattle.std.proofs.lemmas.List.Elements.{All-map, All-weaker}
+use Rattle.std.{proofs.{Common.{List, map}, lemmas.List.Elements.{All-map, All-weaker}}, specs.Prelude.All}
 use Rattle.vote_terms.specs.Votes.{ReadVote}
 use Rattle.consensus_laws.specs.Again.{IsAuthorityInRange}
 use Rattle.compute_terms.specs.Consensuses.{source_of}

@@ -1,7 +1,5 @@
 -- The times of a consensus are those of votes, or 0.
-use Rattle.std.proofs.Common.{ℕ, ◌≤◌, List, map}
-use Rattle.std.specs.Prelude.{All}
-use Rattle.std.proofs.lemmas.List.Elements.{All-map}
+use Rattle.std.{proofs.{Common.{ℕ, ◌≤◌, List, map}, lemmas.List.Elements.All-map}, specs.Prelude.All}
 use Rattle.vote_terms.specs.Votes.{ReadVote}
 use Rattle.compute_terms.specs.Times.{median_of}
 use Rattle.computed_laws.proofs.Medians.{median_within}

@@ -1,19 +1,15 @@
 -- The texts of a vote that may be written fill lines.
-use Rattle.std.proofs.Common.{ℕ, ◌+◌, List, [], ◌∷◌, ◌++◌, length, Option, Some, None}
-use Rattle.std.specs.Prelude.{All, IfSome, option_map}
-use Rattle.std.proofs.lemmas.List.Elements.{All-cons, All-head, All-nil, All-tail}
+use Rattle.std.proofs.{Common.{ℕ, ◌+◌, List, [], ◌∷◌, ◌++◌, length, Option, Some, None}, lemmas.List.Elements.All-cons}
+use Rattle.std.{proofs.lemmas.List.Elements.{All-head, All-nil, All-tail}, specs.Prelude.{All, IfSome, option_map}}
 use Rattle.dirdoc_grammar.specs.Writing.{AreWritable, IsLineRest, NewItem, item_text}
 use Rattle.frame_terms.specs.declared.keyword.Keyword.{Keyword}
 use Rattle.frame_terms.specs.declared.keyword.Keyword.TheVariants as the
 use Rattle.frame_values.specs.Items.{bare, item_if}
 use Rattle.relay_entries.specs.Texts.{bandwidths_text, ed_text}
 use Rattle.authority_certs.specs.Texts.{cert_items}
-use Rattle.vote_terms.specs.declared.entry.EntryFacts.{EntryFacts}
-use Rattle.vote_terms.specs.declared.facts.VoteFacts.{VoteFacts}
+use Rattle.vote_terms.specs.{declared.{entry.EntryFacts.EntryFacts, facts.VoteFacts.VoteFacts}, Votes.max_vote}
 use Rattle.vote_text.specs.Entries.{entries_items, entry_items, flag_items, items_each, micro_items, relay_items}
-use Rattle.vote_text.specs.Texts.{authority_items, footer_items, preamble_items, random_items}
-use Rattle.vote_text.specs.Texts.{source_text, vote_items}
-use Rattle.vote_terms.specs.Votes.{max_vote}
+use Rattle.vote_text.specs.Texts.{authority_items, footer_items, preamble_items, random_items, source_text, vote_items}
 use Rattle.vote_laws.proofs.Members.{back_of, front_of}
 use Rattle.computed_laws.specs.WithinLimits.{FillsLines, HasLineTexts, ReadableVotesFillLines}
 

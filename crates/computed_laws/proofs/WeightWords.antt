@@ -1,15 +1,13 @@
 -- The weights of bandwidth fill a line.
-use Rattle.std.proofs.Common.{ℕ, List, [], ◌∷◌, ◌++◌, refl}
-use Rattle.std.specs.Prelude.{codes}
-use Rattle.std.specs.List.{join_with_byte}
-use Rattle.std.proofs.lemmas.List.Elements.{All-append, All-cons, All-nil}
+use Rattle.std.proofs.{Common.{ℕ, List, [], ◌∷◌, ◌++◌, refl}, lemmas.List.Elements.{All-append, All-cons, All-nil}}
+use Rattle.std.specs.{Prelude.codes, List.join_with_byte}
 use Rattle.item_terms.specs.Bytes.{space}
 use Rattle.bw_weights.specs.declared.position_weights.Weights.{Weights}
 use Rattle.dirdoc_grammar.specs.Writing.{IsLineRest}
 use Rattle.frame_laws.proofs.WordTexts.{AreWords, IsWord}
 use Rattle.value_laws.proofs.LineWords.{rest_of_words}
-use Rattle.consensus_terms.specs.Lines.{named_text}
-use Rattle.consensus_terms.specs.Weights.{directory_words, exit_words, guard_words, middle_words, weight_words}
+use Rattle.consensus_terms.specs.{Lines.named_text, Weights.{directory_words, exit_words, guard_words, middle_words}}
+use Rattle.consensus_terms.specs.Weights.{weight_words}
 use Rattle.computed_laws.proofs.Forms.{named_word}
 
 record HaveWords (words : List (List ℕ)) : Type 0 where

@@ -4,14 +4,10 @@ use Rattle.dir_bytes.specs.Causes.{last_moment}
 use Rattle.dir_values.specs.FlagSets.{is_name}
 use Rattle.dirdoc_grammar.specs.Writing.{AreWritable}
 use Rattle.group_laws.specs.LineAgain.{IsRandomInRange, IsSourceInRange}
-use Rattle.vote_terms.specs.Votes.{ReadVote}
-use Rattle.vote_terms.specs.declared.facts.VoteFacts.{VoteFacts}
+use Rattle.vote_terms.specs.{Votes.ReadVote, declared.facts.VoteFacts.VoteFacts}
 use Rattle.vote_laws.specs.Again as vote_laws
-use Rattle.consensus_terms.specs.Signed.{signed}
-use Rattle.consensus_terms.specs.Texts.{unsigned}
-use Rattle.consensus_terms.specs.declared.consensus.SignedConsensus.{SignedConsensus}
-use Rattle.consensus_terms.specs.declared.flavour.Flavour.{Flavour}
-use Rattle.consensus_terms.specs.declared.signature.SignatureLine.{SignatureLine}
+use Rattle.consensus_terms.specs.{Signed.signed, Texts.unsigned, declared.consensus.SignedConsensus.SignedConsensus}
+use Rattle.consensus_terms.specs.declared.{flavour.Flavour.Flavour, signature.SignatureLine.SignatureLine}
 use Rattle.consensus_doc.specs.Reading.{consensus_of, max_consensus}
 use Rattle.consensus_laws.specs.Again.{AreFactsInRange, IsSignatureInRange, as_read, with_signatures}
 use Rattle.consensus_laws.specs.Items.{consensus_items}

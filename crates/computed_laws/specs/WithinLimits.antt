@@ -4,15 +4,11 @@ use Rattle.std.specs.Prelude.{◌≡◌, ℕ, List, length, All, IfSome, Ok}
 use Rattle.base64.specs.GeneralPurpose.{IsBytes}
 use Rattle.dirdoc_grammar.specs.Writing.{IsLineRest}
 use Rattle.grammar_laws.specs.Written.{AreWithinLimits, IsItem}
-use Rattle.vote_terms.specs.Votes.{ReadVote}
-use Rattle.vote_terms.specs.declared.entry.EntryFacts.{EntryFacts}
-use Rattle.vote_terms.specs.declared.facts.VoteFacts.{VoteFacts}
+use Rattle.vote_terms.specs.{Votes.ReadVote, declared.{entry.EntryFacts.EntryFacts, facts.VoteFacts.VoteFacts}}
 use Rattle.vote_laws.specs.Again as vote_laws
-use Rattle.consensus_terms.specs.declared.flavour.Flavour.{Flavour}
-use Rattle.consensus_terms.specs.declared.signature.SignatureLine.{SignatureLine}
+use Rattle.consensus_terms.specs.declared.{flavour.Flavour.Flavour, signature.SignatureLine.SignatureLine}
 use Rattle.consensus_doc.specs.Reading.{consensus_of, max_consensus}
-use Rattle.consensus_laws.specs.Again.{IsSignatureInRange, as_read}
-use Rattle.consensus_laws.specs.Items.{consensus_items}
+use Rattle.consensus_laws.specs.{Again.{IsSignatureInRange, as_read}, Items.consensus_items}
 use Rattle.count_terms.specs.declared.newest.Newest.{Newest}
 use Rattle.computed_laws.specs.Computed.{AreVotesInRange, computed_text, signed_consensus}
 

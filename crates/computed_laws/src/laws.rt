@@ -1,7 +1,8 @@
 // That what is computed of votes that can be read can be read too.
-ghost use Rattle.computed_laws.specs.Computed.{ComputedFactsAreInRange, ComputedTextsAreReadAgain, ReadableVotesAreInRange};
-ghost use Rattle.computed_laws.specs.WithinLimits.{ComputedItemsAreItems, ReadableVotesFillLines};
-ghost use Rattle.computed_laws.specs.WithinLimits.{ConsensusesOfReadableVotesAreReadAgain, ConsensusesWithinLimitsAreReadAgain};
+ghost use Rattle.computed_laws.specs.Computed.{ComputedFactsAreInRange, ComputedTextsAreReadAgain};
+ghost use Rattle.computed_laws.specs.{Computed.ReadableVotesAreInRange, WithinLimits.ComputedItemsAreItems};
+ghost use Rattle.computed_laws.specs.WithinLimits.{ReadableVotesFillLines, ConsensusesOfReadableVotesAreReadAgain};
+ghost use Rattle.computed_laws.specs.WithinLimits.{ConsensusesWithinLimitsAreReadAgain};
 
 /// A law: a vote that can be written and read again is in range, which the next laws ask of votes.
 pub fn readable_votes_are_in_range()

@@ -1,18 +1,13 @@
 -- The places whose entries belong to an identity, one after the other.
-use Rattle.std.proofs.Common.{◌≡◌, ℕ, ◌+◌, ◌<◌, ◌≤◌, ◌⊎◌, Bool, true, false, List, [], ◌∷◌, ◌++◌, Option, Some, None, length, get_or, take, refl, sym, ap, ◌∙◌, subst, ⊎_elim}
-use Rattle.std.specs.Prelude.{All, IsSome, filter, option_map, if◌then◌else◌}
-use Rattle.std.proofs.lemmas.Option.{same_Some}
-use Rattle.std.proofs.lemmas.List.{append-nil}
-use Rattle.std.proofs.lemmas.List.Elements.{All-append, All-cons, All-nil, filter-append, filter_map-append}
-use Rattle.vote_terms.specs.Votes.{ReadVote}
-use Rattle.vote_terms.specs.declared.entry.EntryFacts.{EntryFacts}
-use Rattle.compute_terms.specs.declared.belong.Belong.{Belong}
-use Rattle.compute_terms.specs.declared.identity.EdPart.{EdPart}
-use Rattle.compute_terms.specs.Listings.{Listing, listing_at, listings_at, AreMembers}
-use Rattle.compute_terms.specs.Identities.{belongs}
-use Rattle.compute_terms.specs.Routers.{belonging_listings}
-use Rattle.consensus_calc.specs.Places.{with_place}
-use Rattle.consensus_calc.proofs.Counts.{listings_more}
+use Rattle.std.proofs.Common.{◌≡◌, ℕ, ◌+◌, ◌<◌, ◌≤◌, ◌⊎◌, Bool, true, false, List, [], ◌∷◌, ◌++◌, Option, Some, None}
+use Rattle.std.proofs.{Common.{length, get_or, take, refl, sym, ap, ◌∙◌, subst, ⊎_elim}, lemmas.Option.same_Some}
+use Rattle.std.proofs.lemmas.List.{append-nil, Elements.{All-append, All-cons, All-nil, filter-append}}
+use Rattle.std.{proofs.lemmas.List.Elements.filter_map-append, specs.Prelude.{All, IsSome, filter, option_map}}
+use Rattle.std.specs.Prelude.{if◌then◌else◌}
+use Rattle.vote_terms.specs.{Votes.ReadVote, declared.entry.EntryFacts.EntryFacts}
+use Rattle.compute_terms.specs.{declared.{belong.Belong.Belong, identity.EdPart.EdPart}, Listings.{Listing, listing_at}}
+use Rattle.compute_terms.specs.{Listings.{listings_at, AreMembers}, Identities.belongs, Routers.belonging_listings}
+use Rattle.consensus_calc.{specs.Places.with_place, proofs.Counts.listings_more}
 
 kept_by : (b : Bool) (part : EdPart) (l : Listing) → belongs part l.entry.ed ≡ b → belonging_listings part (l ∷ []) ≡ (if b then l ∷ [] else [])
 kept_by true part l e = rw e refl

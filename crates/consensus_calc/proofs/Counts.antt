@@ -1,17 +1,13 @@
 -- Counting one vote after the other.
-use Rattle.std.proofs.Common.{◌≡◌, ℕ, zero, suc, ◌+◌, ◌<◌, ◌≤◌, Bool, true, false, cond, ◌&&◌, List, [], ◌∷◌, ◌++◌, Option, Some, None, length, get_or, set, take, drop, map, replicate, refl, sym, ap, ◌∙◌, add-one, drop-cons, append_assoc, length-append, arith}
-use Rattle.std.specs.Prelude.{count_by, filter, option_map, slice_get, IsSome}
-use Rattle.std.specs.List.{filter_map}
-use Rattle.std.proofs.lemmas.List.{take_more, take_more_set, drop-set-lt}
-use Rattle.std.proofs.lemmas.List.Sums.{length-filter}
-use Rattle.std.proofs.lemmas.List.Elements.{filter-append, filter_map-append}
-use Rattle.std.proofs.lemmas.Bool.{false≢true}
-use Rattle.std.proofs.lemmas.Option.{same_Some, slice_get_within}
-use Rattle.vote_terms.specs.Votes.{ReadVote}
-use Rattle.vote_terms.specs.declared.entry.EntryFacts.{EntryFacts}
+use Rattle.std.proofs.Common.{◌≡◌, ℕ, zero, suc, ◌+◌, ◌<◌, ◌≤◌, Bool, true, false, cond, ◌&&◌, List, [], ◌∷◌, ◌++◌}
+use Rattle.std.proofs.Common.{Option, Some, None, length, get_or, set, take, drop, map, replicate, refl, sym, ap, ◌∙◌}
+use Rattle.std.proofs.{Common.{add-one, drop-cons, append_assoc, length-append, arith}, lemmas.List.take_more}
+use Rattle.std.proofs.lemmas.List.{take_more_set, drop-set-lt, Sums.length-filter, Elements.filter-append}
+use Rattle.std.proofs.lemmas.{List.Elements.filter_map-append, Bool.false≢true, Option.{same_Some, slice_get_within}}
+use Rattle.std.specs.{Prelude.{count_by, filter, option_map, slice_get, IsSome}, List.filter_map}
+use Rattle.vote_terms.specs.{Votes.ReadVote, declared.entry.EntryFacts.EntryFacts}
 use Rattle.dir_values.specs.FlagSets.{has_flag}
-use Rattle.compute_terms.specs.declared.belong.Belong.{Belong}
-use Rattle.compute_terms.specs.Listings.{Listing, listing_at, listings_at}
+use Rattle.compute_terms.specs.{declared.belong.Belong.Belong, Listings.{Listing, listing_at, listings_at}}
 use Rattle.compute_terms.specs.RelayFlags.{knows, counts_for, setting_count, knowing_count}
 use Rattle.consensus_calc.specs.Counting.{one_if, added_counts}
 

@@ -1,21 +1,15 @@
 -- The line of a relay, step by step.
 use Rattle.std.proofs.Common.{◌≡◌, ℕ, Bool, true, false, List, Option, Some, None, sym, ap, ◌∙◌}
-use Rattle.std.specs.Prelude.{option_map, option_and_then, filter, map}
-use Rattle.std.specs.Prelude.{if◌then◌else◌}
-use Rattle.dir_values.specs.declared.digest.Fingerprint.{Fingerprint}
-use Rattle.dir_values.specs.FlagSets.{as_set}
-use Rattle.vote_terms.specs.Votes.{ReadVote}
-use Rattle.vote_terms.specs.declared.entry.EntryFacts.{EntryFacts}
-use Rattle.compute_terms.specs.declared.identity.EdPart.{EdPart}
+use Rattle.std.specs.Prelude.{option_map, option_and_then, filter, map, if◌then◌else◌}
+use Rattle.dir_values.specs.{declared.digest.Fingerprint.Fingerprint, FlagSets.as_set}
+use Rattle.vote_terms.specs.{Votes.ReadVote, declared.entry.EntryFacts.EntryFacts}
+use Rattle.compute_terms.specs.{declared.identity.EdPart.EdPart, Listings.{Listing, entries_of}, Identities.eds_of}
+use Rattle.compute_terms.specs.{Identities.included_part, Tuples.chosen_tuple, RelayFlags.setting_count}
+use Rattle.compute_terms.specs.RelayFlags.{knowing_count, is_set, set_flags, router_flags, is_running_and_valid}
+use Rattle.compute_terms.specs.{Flags.known_flags, Routers.{belonging_listings, routerline_of, router_as, router_from}}
+use Rattle.compute_terms.specs.Routers.{router_with}
 use Rattle.consensus_terms.specs.declared.router.Routerline.{Routerline}
-use Rattle.compute_terms.specs.Listings.{Listing, entries_of}
-use Rattle.compute_terms.specs.Identities.{eds_of, included_part}
-use Rattle.compute_terms.specs.Tuples.{chosen_tuple}
-use Rattle.compute_terms.specs.RelayFlags.{setting_count, knowing_count, is_set, set_flags, router_flags, is_running_and_valid}
-use Rattle.compute_terms.specs.Flags.{known_flags}
-use Rattle.compute_terms.specs.Routers.{belonging_listings, routerline_of, router_as, router_from, router_with}
-use Rattle.consensus_calc.specs.Picking.{picked_flags}
-use Rattle.consensus_calc.proofs.Picks.{picked_filter}
+use Rattle.consensus_calc.{specs.Picking.picked_flags, proofs.Picks.picked_filter}
 
 -- The part of an identity and the flags of its entries were found.
 pub record IsFound (roster : ℕ) (votes : List ReadVote) (said kept : List Listing) (ed : EdPart) (flags : List (List ℕ)) : Type 0 where

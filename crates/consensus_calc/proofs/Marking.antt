@@ -1,15 +1,10 @@
 -- Marking the flags that stand in a list, one word after the other.
-use Rattle.std.proofs.Common.{◌≡◌, ℕ, zero, suc, ◌<◌, Bool, true, false, ◌||◌, List, [], ◌∷◌, Some, length, map, set, replicate, refl, sym, ap, ◌∙◌, subst, arith}
-use Rattle.std.specs.Prelude.{All, slice_get}
-use Rattle.std.specs.Str.{bytes_eq}
-use Rattle.std.specs.Cmp.Lexicographic.{bytes_decides}
-use Rattle.std.proofs.lemmas.Cmp.{nat_list_cmp_total, tied_itself}
-use Rattle.std.proofs.lemmas.Bool.{false≢true}
-use Rattle.std.proofs.lemmas.Option.{same_Some}
-use Rattle.dir_values.specs.Digests.{is_less, bytes_below}
-use Rattle.dir_values.specs.FlagSets.{has_flag, as_set, Ascend}
-use Rattle.dir_values.proofs.Flags.{has_flag-as_set}
-use Rattle.dir_values.proofs.Orders.{same_text, AllPairs-head, AllPairs-tail}
+use Rattle.std.proofs.Common.{◌≡◌, ℕ, zero, suc, ◌<◌, Bool, true, false, ◌||◌, List, [], ◌∷◌, Some, length, map, set}
+use Rattle.std.proofs.{Common.{replicate, refl, sym, ap, ◌∙◌, subst, arith}, lemmas.Cmp.nat_list_cmp_total}
+use Rattle.std.{proofs.lemmas.{Cmp.tied_itself, Bool.false≢true, Option.same_Some}, specs.Prelude.{All, slice_get}}
+use Rattle.std.specs.{Str.bytes_eq, Cmp.Lexicographic.bytes_decides}
+use Rattle.dir_values.specs.{Digests.{is_less, bytes_below}, FlagSets.{has_flag, as_set, Ascend}}
+use Rattle.dir_values.proofs.{Flags.has_flag-as_set, Orders.{same_text, AllPairs-head, AllPairs-tail}}
 use Rattle.consensus_calc.specs.Marks.{flag_marks}
 
 abbrev Below : List ℕ → List ℕ → Type 0

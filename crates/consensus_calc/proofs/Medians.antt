@@ -1,8 +1,6 @@
 -- The bound of a median.
 use Rattle.std.proofs.Common.{◌≡◌, ℕ, ◌≤◌, Bool, true, false, List, [], ◌∷◌, length, Some, refl, arith}
-use Rattle.std.specs.Prelude.{All, unwrap_or, cond}
-use Rattle.std.specs.List.{find}
-use Rattle.std.proofs.lemmas.List.Elements.{All-head, All-tail}
+use Rattle.std.{proofs.lemmas.List.Elements.{All-head, All-tail}, specs.{Prelude.{All, unwrap_or, cond}, List.find}}
 use Rattle.count_terms.specs.Counts.{low_median, member_at, middle, stands_at}
 
 -- what is found among values that are within a bound is within it, and so is 0

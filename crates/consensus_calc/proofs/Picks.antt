@@ -1,12 +1,9 @@
 -- Flags that are picked one after the other.
-use Rattle.std.proofs.Common.{◌≡◌, ℕ, zero, suc, ◌+◌, ◌<◌, Bool, true, false, ◌||◌, List, [], ◌∷◌, ◌++◌, Option, Some, None, length, get_or, take, drop, map, refl, sym, ap, ◌∙◌, add-one, drop-cons}
-use Rattle.std.specs.Prelude.{All, IfSome, filter, slice_get}
-use Rattle.std.specs.Option.{option_to_list}
-use Rattle.std.proofs.lemmas.List.Elements.{All-nil, All-cons, All-append, All-same}
-use Rattle.std.specs.List.{fold}
-use Rattle.std.specs.Str.{bytes_eq}
-use Rattle.std.proofs.lemmas.List.{take_more, map-append}
-use Rattle.std.proofs.lemmas.Option.{same_Some, get_or_from_slice_get, slice_get_within}
+use Rattle.std.proofs.Common.{◌≡◌, ℕ, zero, suc, ◌+◌, ◌<◌, Bool, true, false, ◌||◌, List, [], ◌∷◌, ◌++◌, Option, Some}
+use Rattle.std.proofs.Common.{None, length, get_or, take, drop, map, refl, sym, ap, ◌∙◌, add-one, drop-cons}
+use Rattle.std.proofs.lemmas.List.{Elements.{All-nil, All-cons, All-append, All-same}, take_more, map-append}
+use Rattle.std.{proofs.lemmas.Option.{same_Some, get_or_from_slice_get, slice_get_within}, specs.Prelude.{All, IfSome}}
+use Rattle.std.specs.{Prelude.{filter, slice_get}, Option.option_to_list, List.fold, Str.bytes_eq}
 use Rattle.dir_values.specs.FlagSets.{has_flag, with_flag}
 use Rattle.compute_terms.specs.declared.identity.EdPart.{EdPart}
 use Rattle.consensus_calc.specs.Picking.{with_flag_if, is_set_by, picked_flags}

@@ -1,11 +1,8 @@
 -- What is said of a relay by what was chosen is what a consensus says of it.
-use Rattle.std.proofs.Common.{◌≡◌, ℕ, List, Option, Some, None, refl}
-use Rattle.std.specs.Prelude.{option_map}
+use Rattle.std.{proofs.Common.{◌≡◌, ℕ, List, Option, Some, None, refl}, specs.Prelude.option_map}
 use Rattle.dir_values.specs.declared.digest.Fingerprint.{Fingerprint}
 use Rattle.vote_terms.specs.declared.entry.EntryFacts.{EntryFacts}
-use Rattle.compute_terms.specs.Bandwidths.{relay_bandwidth}
-use Rattle.compute_terms.specs.Routers.{routerline_of}
-use Rattle.compute_terms.specs.Tuples.{Tuple}
+use Rattle.compute_terms.specs.{Bandwidths.relay_bandwidth, Routers.routerline_of, Tuples.Tuple}
 use Rattle.relay_select.specs.Choices.{choice_of}
 use Rattle.consensus_calc.specs.Routerlines.{routerline_with}
 

@@ -2,12 +2,10 @@
 pub use Rattle.consensus_terms.specs.Moments.{HasMoments}
 use Rattle.std.specs.Prelude.{◌≡◌, ℕ, true, false, List, length, Result, Ok, Err}
 use Rattle.vote_terms.specs.Votes.{ReadVote}
-use Rattle.count_terms.specs.Counts.{over}
-use Rattle.count_terms.specs.declared.newest.Newest.{Newest}
+use Rattle.count_terms.specs.{Counts.over, declared.newest.Newest.Newest}
 use Rattle.compute_terms.specs.Consensuses.{consensus}
 use Rattle.consensus_terms.specs.declared.consensus.Consensus.{Consensus}
-use Rattle.consensus_calc.specs.declared.record.CalcFault.{CalcFault}
-use Rattle.consensus_calc.specs.declared.record.CalcFault.TheVariants.{TooFew, Memory}
+use Rattle.consensus_calc.specs.declared.record.CalcFault.{CalcFault, TheVariants.{TooFew, Memory}}
 
 -- the consensus of the held votes, where this is the newest method that is known and they are of more than half of the
 -- roster; and else how many there are

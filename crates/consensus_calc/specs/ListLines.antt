@@ -2,10 +2,10 @@
 use Rattle.std.specs.Prelude.{ℕ, List, Option}
 use Rattle.list_values.specs.declared.named.Named.{Named}
 use Rattle.vote_terms.specs.declared.lists.VoteLists.{VoteLists}
-use Rattle.consensus_calc.specs.declared.version_lists.VersionsLine.{VersionsLine}
-use Rattle.consensus_calc.specs.declared.version_lists.VersionsLine.TheVariants.{ForClients, ForRelays}
-use Rattle.consensus_calc.specs.declared.protocol_lists.ProtocolsLine.{ProtocolsLine}
-use Rattle.consensus_calc.specs.declared.protocol_lists.ProtocolsLine.TheVariants.{RecommendedForClients, RecommendedForRelays, RequiredOfClients, RequiredOfRelays}
+use Rattle.consensus_calc.specs.declared.version_lists.VersionsLine.{VersionsLine, TheVariants.{ForClients, ForRelays}}
+use Rattle.consensus_calc.specs.declared.protocol_lists.ProtocolsLine.{ProtocolsLine, TheVariants.RecommendedForClients}
+use Rattle.consensus_calc.specs.declared.protocol_lists.ProtocolsLine.TheVariants.{RecommendedForRelays}
+use Rattle.consensus_calc.specs.declared.protocol_lists.ProtocolsLine.TheVariants.{RequiredOfClients, RequiredOfRelays}
 
 -- a line of versions of a vote's lists
 abbrev pub versions_on : VersionsLine → VoteLists → Option (List (List ℕ))

@@ -1,9 +1,7 @@
 -- The flags that are set, by their counts.
-use Rattle.std.specs.Prelude.{ℕ, Bool, List, [], ◌∷◌, codes, if◌then◌else◌}
-use Rattle.std.specs.Str.{bytes_eq}
+use Rattle.std.specs.{Prelude.{ℕ, Bool, List, [], ◌∷◌, codes, if◌then◌else◌}, Str.bytes_eq}
 use Rattle.dir_values.specs.FlagSets.{with_flag}
-use Rattle.compute_terms.specs.declared.identity.EdPart.{EdPart}
-use Rattle.compute_terms.specs.RelayFlags.{is_bare}
+use Rattle.compute_terms.specs.{declared.identity.EdPart.EdPart, RelayFlags.is_bare}
 use Rattle.count_terms.specs.Counts.{over}
 
 -- whether a flag is set that so many votes set, of so many that know it

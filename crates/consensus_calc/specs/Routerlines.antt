@@ -1,8 +1,7 @@
 -- What a consensus says of a relay, by what was chosen.
 use Rattle.std.specs.Prelude.{ℕ, List, Option}
 use Rattle.dir_values.specs.declared.digest.Fingerprint.{Fingerprint}
-use Rattle.consensus_terms.specs.declared.router.Bandwidth.{Bandwidth}
-use Rattle.consensus_terms.specs.declared.router.Routerline.{Routerline}
+use Rattle.consensus_terms.specs.declared.router.{Bandwidth.Bandwidth, Routerline.Routerline}
 use Rattle.relay_select.specs.declared.choice.Choice.{Choice}
 
 -- what is said of a relay with these flags and this bandwidth, where this is what was chosen

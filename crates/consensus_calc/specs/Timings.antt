@@ -2,8 +2,8 @@
 use Rattle.std.specs.Prelude.{ℕ, ◌-◌, ◌^◌}
 use Rattle.dir_bytes.specs.Causes.{last_moment}
 use Rattle.vote_terms.specs.Votes.{ReadVote}
-use Rattle.consensus_calc.specs.declared.timing.Timing.{Timing}
-use Rattle.consensus_calc.specs.declared.timing.Timing.TheVariants.{ValidAfter, FreshUntil, ValidUntil, VoteSeconds, DistSeconds}
+use Rattle.consensus_calc.specs.declared.timing.Timing.{Timing, TheVariants.{ValidAfter, FreshUntil, ValidUntil}}
+use Rattle.consensus_calc.specs.declared.timing.Timing.TheVariants.{VoteSeconds, DistSeconds}
 
 -- what a vote says
 abbrev pub said_timing : Timing → ReadVote → ℕ

@@ -1,6 +1,5 @@
 // The bandwidth of a relay.
-ghost use Rattle.std.specs.Prelude.{◌≡◌, ◌≤◌, ◌++◌, IfOk, OnOk, count_by, length, OnErr};
-ghost use Rattle.std.specs.Option.{option_to_list};
+ghost use Rattle.std.specs.{Prelude.{◌≡◌, ◌≤◌, ◌++◌, IfOk, OnOk, count_by, length, OnErr}, Option.option_to_list};
 ghost use Rattle.compute_terms.specs.Bandwidths as terms;
 
 use crate::median::low_median;

@@ -1,5 +1,6 @@
 // Which flags stand in a text.
-ghost use Rattle.std.specs.Prelude.{◌≡◌, ◌<◌, ◌^◌, [], ◌∷◌, false, Some, MatchOption, OnOk, length, map, replicate, slice_get};
+ghost use Rattle.std.specs.Prelude.{◌≡◌, ◌<◌, ◌^◌, [], ◌∷◌, false, Some, MatchOption, OnOk, length, map, replicate};
+ghost use Rattle.std.specs.Prelude.{slice_get};
 ghost use Rattle.item_terms.specs.Words.{words_of};
 ghost use Rattle.dir_values.specs.FlagSets.{has_flag, as_set, Ascend};
 ghost use Rattle.consensus_calc.specs.Marks.{flag_marks};

@@ -1,6 +1,5 @@
 // The low median of a few values.
-ghost use Rattle.std.specs.Prelude.{◌≡◌, count_by, nat_lt, nat_le};
-ghost use Rattle.std.specs.List.{find};
+ghost use Rattle.std.specs.{Prelude.{◌≡◌, count_by, nat_lt, nat_le}, List.find};
 ghost use Rattle.count_terms.specs.Counts as counts;
 
 /// The low median of some values, and 0 of none.

@@ -1,9 +1,7 @@
 // The walk over all relays.
-ghost use Rattle.std.specs.Prelude.{◌≡◌, ◌≤◌, ◌++◌, All, IfOk, IfSome, OnOk, map, OnErr};
-ghost use Rattle.std.specs.Option.{option_to_list};
+ghost use Rattle.std.specs.{Prelude.{◌≡◌, ◌≤◌, ◌++◌, All, IfOk, IfSome, OnOk, map, OnErr}, Option.option_to_list};
 ghost use Rattle.dir_bytes.specs.Causes.{last_moment};
-ghost use Rattle.compute_terms.specs.Flags.{known_flags};
-ghost use Rattle.compute_terms.specs.Listings.{AreMembers, listings_at};
+ghost use Rattle.compute_terms.specs.{Flags.known_flags, Listings.{AreMembers, listings_at}};
 ghost use Rattle.compute_terms.specs.RelayFlags as flags;
 ghost use Rattle.compute_terms.specs.Routers as terms;
 ghost use Rattle.consensus_calc.specs.Places.{with_place};

@@ -1,22 +1,16 @@
 -- What a reader keeps is what is kept of a document, beside its flavour and its bytes.
-use Rattle.std.proofs.Common.{◌≡◌, ℕ, List, [], ◌∷◌, length, refl, sym, ap, ◌∙◌}
-use Rattle.std.specs.Prelude.{Result, Ok, Err}
+use Rattle.std.{proofs.Common.{◌≡◌, ℕ, List, [], ◌∷◌, length, refl, sym, ap, ◌∙◌}, specs.Prelude.{Result, Ok, Err}}
 use Rattle.std.specs.List.{fold}
 use Rattle.item_terms.specs.Items.{Contents, items_of}
-use Rattle.frame_terms.specs.declared.document.Group.{Group}
-use Rattle.frame_terms.specs.declared.fault.ReadRefusal.{ReadRefusal}
-use Rattle.frame_terms.specs.Documents.{Document, document_of, finish}
+use Rattle.frame_terms.specs.{declared.{document.Group.Group, fault.ReadRefusal.ReadRefusal}, Documents.Document}
+use Rattle.frame_terms.specs.Documents.{document_of, finish}
 use Rattle.frame_values.specs.declared.values.Value.{Value}
-use Rattle.consensus_terms.specs.declared.consensus.SignedConsensus.{SignedConsensus}
-use Rattle.consensus_terms.specs.declared.flavour.Flavour.{Flavour}
-use Rattle.consensus_frame.specs.declared.rows.ConsensusSection.{ConsensusSection}
-use Rattle.consensus_frame.specs.declared.value.ConsensusValue.{ConsensusValue}
+use Rattle.consensus_terms.specs.declared.{consensus.SignedConsensus.SignedConsensus, flavour.Flavour.Flavour}
+use Rattle.consensus_frame.specs.declared.{rows.ConsensusSection.ConsensusSection, value.ConsensusValue.ConsensusValue}
 use Rattle.consensus_frame.specs.Tables.{consensus_tables}
-use Rattle.consensus_doc.specs.declared.draft.Draft.{Draft}
-use Rattle.consensus_doc.specs.Drafts.{no_draft, with_section}
-use Rattle.consensus_doc.specs.Keeping.{Kept, with_draft, kept_with_section}
-use Rattle.consensus_doc.specs.Reading.{consensus_as, consensus_in, consensus_of, draft_of, flavour_of, max_consensus}
-use Rattle.consensus_doc.specs.Reading.{with_consensus}
+use Rattle.consensus_doc.specs.{declared.draft.Draft.Draft, Drafts.{no_draft, with_section}, Keeping.{Kept, with_draft}}
+use Rattle.consensus_doc.specs.{Keeping.kept_with_section, Reading.{consensus_as, consensus_in, consensus_of, draft_of}}
+use Rattle.consensus_doc.specs.Reading.{flavour_of, max_consensus, with_consensus}
 
 -- a section of a consensus with its items
 abbrev pub Part : Type 0

@@ -1,29 +1,18 @@
 -- Each moment that is kept of a consensus is one of the calendar.
-use Rattle.std.proofs.Common.{◌≡◌, ℕ, ◌≤◌, List, [], ◌∷◌, length, subst, arith}
-use Rattle.std.specs.Prelude.{Result, Ok, Err, IfOk, All}
-use Rattle.std.specs.List.{fold}
-use Rattle.std.proofs.lemmas.List.Elements.{All-nil, All-push}
+use Rattle.std.proofs.{Common.{◌≡◌, ℕ, ◌≤◌, List, [], ◌∷◌, length, subst, arith}, lemmas.List.Elements.All-nil}
+use Rattle.std.{proofs.lemmas.List.Elements.All-push, specs.{Prelude.{Result, Ok, Err, IfOk, All}, List.fold}}
 use Rattle.dir_bytes.specs.Causes.{last_moment}
-use Rattle.frame_terms.specs.declared.document.Taken.{Taken}
-use Rattle.frame_terms.specs.declared.fault.ReadRefusal.{ReadRefusal}
+use Rattle.frame_terms.specs.{declared.{document.Taken.Taken, fault.ReadRefusal.ReadRefusal}, Documents.document_of}
+use Rattle.frame_terms.specs.Documents.{finish}
 use Rattle.frame_terms.specs.declared.keyword.Keyword.TheVariants as the
-use Rattle.frame_terms.specs.Documents.{document_of, finish}
 use Rattle.item_terms.specs.Items.{items_of}
-use Rattle.frame_values.specs.declared.values.Value.{Value}
-use Rattle.frame_values.specs.Parts.{moment_of}
-use Rattle.frame_values.specs.Values.{item_at, number_in}
-use Rattle.consensus_terms.specs.declared.flavour.Flavour.{Flavour}
-use Rattle.consensus_terms.specs.declared.router.Routerline.{Routerline}
-use Rattle.consensus_terms.specs.Moments.{HasMoments}
-use Rattle.consensus_frame.specs.declared.rows.ConsensusSection.{ConsensusSection}
-use Rattle.consensus_frame.specs.declared.rows.ConsensusSection.TheVariants.{Preamble, Source, Router, Footer}
-use Rattle.consensus_frame.specs.declared.value.ConsensusValue.{ConsensusValue}
-use Rattle.consensus_frame.specs.Tables.{consensus_tables}
-use Rattle.consensus_doc.specs.declared.draft.Draft.{Draft}
-use Rattle.consensus_doc.specs.Drafts.{no_draft, with_section, router_of}
-use Rattle.consensus_doc.specs.Reading.{draft_of, max_consensus}
-use Rattle.consensus_doc.specs.Saying.{relay_in}
-use Rattle.consensus_doc.proofs.Drafting.{Part, Parts}
+use Rattle.frame_values.specs.{declared.values.Value.Value, Parts.moment_of, Values.{item_at, number_in}}
+use Rattle.consensus_terms.specs.{declared.{flavour.Flavour.Flavour, router.Routerline.Routerline}, Moments.HasMoments}
+use Rattle.consensus_frame.specs.declared.rows.ConsensusSection.{ConsensusSection, TheVariants.{Preamble, Source}}
+use Rattle.consensus_frame.specs.declared.rows.ConsensusSection.TheVariants.{Router, Footer}
+use Rattle.consensus_frame.specs.{declared.value.ConsensusValue.ConsensusValue, Tables.consensus_tables}
+use Rattle.consensus_doc.specs.{declared.draft.Draft.Draft, Drafts.{no_draft, with_section, router_of}}
+use Rattle.consensus_doc.{specs.{Reading.{draft_of, max_consensus}, Saying.relay_in}, proofs.Drafting.{Part, Parts}}
 
 -- a moment that is kept is of the calendar
 within : (number : ℕ) → moment_of number ≤ last_moment

@@ -3,32 +3,24 @@
 use Rattle.std.specs.Prelude.{ℕ, ℤ, ◌+◌, ◌-◌, ◌^◌, min, List, [], ◌∷◌, ◌++◌, Option, Some, None, option_map, codes}
 use Rattle.std.specs.List.{flat_map}
 use Rattle.item_terms.specs.Words.{words_of}
-use Rattle.dir_values.specs.FlagSets.{as_set}
-use Rattle.dir_values.specs.declared.algorithm.Algorithm.{Algorithm}
-use Rattle.dir_values.specs.declared.algorithm.Algorithm.TheVariants.{Sha1, Sha256}
+use Rattle.dir_values.specs.{FlagSets.as_set, declared.algorithm.Algorithm.{Algorithm, TheVariants.{Sha1, Sha256}}}
 use Rattle.list_values.specs.declared.named.Named.{Named}
 use Rattle.value_groups.specs.Listed.{params_in, protocols_in, versions_in}
-use Rattle.frame_terms.specs.declared.document.Taken.{Taken}
-use Rattle.frame_terms.specs.declared.keyword.Keyword.{Keyword}
+use Rattle.frame_terms.specs.declared.{document.Taken.Taken, keyword.Keyword.Keyword}
 use Rattle.frame_terms.specs.declared.keyword.Keyword.TheVariants as the
-use Rattle.frame_values.specs.declared.found.VoteSignature.{VoteSignature}
-use Rattle.frame_values.specs.declared.values.Value.{Value}
+use Rattle.frame_values.specs.{declared.{found.VoteSignature.VoteSignature, values.Value.Value}, Parts.{part, bytes_in}}
+use Rattle.frame_values.specs.{Parts.moment_of, Values.{item_at, place_in, number_in, text_if, text_in}}
 use Rattle.frame_values.specs.declared.values.Value.TheVariants as value
-use Rattle.frame_values.specs.Parts.{part, bytes_in, moment_of}
-use Rattle.frame_values.specs.Values.{item_at, place_in, number_in, text_if, text_in}
-use Rattle.consensus_terms.specs.declared.consensus.ConsensusFacts.{ConsensusFacts}
-use Rattle.consensus_terms.specs.declared.consensus.ConsensusLists.{ConsensusLists}
-use Rattle.consensus_terms.specs.declared.consensus.SourceLine.{SourceLine}
-use Rattle.consensus_terms.specs.declared.flavour.Flavour.{Flavour}
-use Rattle.consensus_terms.specs.declared.flavour.Flavour.TheVariants.{Ns, Microdesc}
-use Rattle.consensus_terms.specs.declared.router.Routerline.{Routerline}
+use Rattle.consensus_terms.specs.declared.consensus.{ConsensusFacts.ConsensusFacts, ConsensusLists.ConsensusLists}
+use Rattle.consensus_terms.specs.declared.{consensus.SourceLine.SourceLine, flavour.Flavour.{Flavour, TheVariants.Ns}}
+use Rattle.consensus_terms.specs.declared.{flavour.Flavour.TheVariants.Microdesc, router.Routerline.Routerline}
 use Rattle.consensus_terms.specs.declared.signature.SignatureLine.{SignatureLine}
-use Rattle.consensus_frame.specs.declared.rows.ConsensusSection.{ConsensusSection}
-use Rattle.consensus_frame.specs.declared.rows.ConsensusSection.TheVariants.{Preamble, Source, Router, Footer}
+use Rattle.consensus_frame.specs.declared.rows.ConsensusSection.{ConsensusSection, TheVariants.{Preamble, Source}}
+use Rattle.consensus_frame.specs.declared.rows.ConsensusSection.TheVariants.{Router, Footer}
 use Rattle.consensus_frame.specs.declared.value.ConsensusValue.{ConsensusValue}
 use Rattle.consensus_frame.specs.declared.value.ConsensusValue.TheVariants as own
-use Rattle.consensus_doc.specs.declared.draft.Draft.{Draft}
-use Rattle.consensus_doc.specs.Saying.{delays_in, random_in, source_in, vote_digest_in, relay_in, bandwidth_in, micro_digest_in}
+use Rattle.consensus_doc.specs.{declared.draft.Draft.Draft, Saying.{delays_in, random_in, source_in, vote_digest_in}}
+use Rattle.consensus_doc.specs.Saying.{relay_in, bandwidth_in, micro_digest_in}
 
 -- ---- what items say, in these bytes
 

@@ -3,10 +3,8 @@ use Rattle.std.specs.Prelude.{ℕ, List}
 use Rattle.frame_terms.specs.declared.document.Taken.{Taken}
 use Rattle.frame_values.specs.declared.values.Value.{Value}
 use Rattle.consensus_terms.specs.declared.flavour.Flavour.{Flavour}
-use Rattle.consensus_frame.specs.declared.rows.ConsensusSection.{ConsensusSection}
-use Rattle.consensus_frame.specs.declared.value.ConsensusValue.{ConsensusValue}
-use Rattle.consensus_doc.specs.declared.draft.Draft.{Draft}
-use Rattle.consensus_doc.specs.Drafts.{with_section}
+use Rattle.consensus_frame.specs.declared.{rows.ConsensusSection.ConsensusSection, value.ConsensusValue.ConsensusValue}
+use Rattle.consensus_doc.specs.{declared.draft.Draft.Draft, Drafts.with_section}
 
 -- the bytes of a document of a flavour, and what was kept of its sections
 pub record Kept : Type 0 where

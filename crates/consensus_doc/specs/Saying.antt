@@ -1,13 +1,10 @@
 -- What items of a consensus alone say, in its sections. Where an item is not there, its value is nothing.
 use Rattle.std.specs.Prelude.{ℕ, Option, Some, None}
-use Rattle.dir_values.specs.declared.digest.Digest1.{Digest1}
-use Rattle.dir_values.specs.declared.digest.Digest2.{Digest2}
+use Rattle.dir_values.specs.declared.digest.{Digest1.Digest1, Digest2.Digest2}
 use Rattle.frame_terms.specs.declared.document.Taken.{Taken}
-use Rattle.frame_values.specs.declared.found.DirSource.{DirSource}
-use Rattle.frame_values.specs.declared.values.Value.{Value}
-use Rattle.frame_values.specs.Values.{own_in, nowhere, no_digest, no_identity}
-use Rattle.relay_entries.specs.declared.said.EntryValue.TheVariants.{Relay}
-use Rattle.relay_entries.specs.declared.said.RelayLine.{RelayLine}
+use Rattle.frame_values.specs.{declared.{found.DirSource.DirSource, values.Value.Value}, Values.{own_in, nowhere}}
+use Rattle.frame_values.specs.Values.{no_digest, no_identity}
+use Rattle.relay_entries.specs.declared.said.{EntryValue.TheVariants.Relay, RelayLine.RelayLine}
 use Rattle.value_groups.specs.declared.value.SharedRandom.{SharedRandom}
 use Rattle.consensus_terms.specs.declared.router.Bandwidth.{Bandwidth}
 use Rattle.consensus_frame.specs.declared.value.ConsensusValue.{ConsensusValue}

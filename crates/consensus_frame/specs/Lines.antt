@@ -1,28 +1,16 @@
 -- What the lines of a consensus say that a vote has not, or has otherwise (dir-spec, "Vote and consensus status
 -- document formats").
-use Rattle.std.specs.Prelude.{ℕ, ◌+◌, ◌*◌, true, false, ◌||◌, not, List, [], ◌∷◌, Option, Some, None}
-use Rattle.std.specs.Prelude.{Result, Ok, Err, codes, if◌then◌else◌}
-use Rattle.std.specs.Option.{option_map}
-use Rattle.std.specs.Str.{bytes_eq}
-use Rattle.item_terms.specs.Items.{Item}
-use Rattle.item_terms.specs.Words.{strip}
+use Rattle.std.specs.Prelude.{ℕ, ◌+◌, ◌*◌, true, false, ◌||◌, not, List, [], ◌∷◌, Option, Some, None, Result, Ok, Err}
+use Rattle.std.specs.{Prelude.{codes, if◌then◌else◌}, Option.option_map, Str.bytes_eq}
+use Rattle.item_terms.specs.{Items.Item, Words.strip}
 use Rattle.dir_bytes.specs.Fields.{date, time_of_day, address}
-use Rattle.dir_values.specs.Arguments.{Argument}
+use Rattle.dir_values.specs.{Arguments.Argument, Digests.key_digest, Names.is_nickname, Numbers.{number_of, port_of}}
+use Rattle.dir_values.specs.declared.digest.{Digest1.Digest1, Digest2.Digest2}
 pub use Rattle.dir_values.specs.Digests.{digest1, digest2}
-use Rattle.dir_values.specs.Digests.{key_digest}
-use Rattle.dir_values.specs.Names.{is_nickname}
-use Rattle.dir_values.specs.Numbers.{number_of, port_of}
-use Rattle.dir_values.specs.declared.digest.Digest1.{Digest1}
-use Rattle.dir_values.specs.declared.digest.Digest2.{Digest2}
-use Rattle.frame_values.specs.Arguments.{arguments_of, front, others, field, next}
-use Rattle.frame_values.specs.Fields.{span_if}
-use Rattle.frame_values.specs.Values.{no_digest}
-use Rattle.relay_entries.specs.Fields.{identity, with_argument}
-use Rattle.relay_entries.specs.Lines.{no_bandwidths}
-use Rattle.relay_entries.specs.declared.said.Bandwidths.{Bandwidths}
-use Rattle.relay_entries.specs.declared.said.RelayLine.{RelayLine}
-use Rattle.consensus_terms.specs.declared.flavour.Flavour.{Flavour}
-use Rattle.consensus_terms.specs.declared.flavour.Flavour.TheVariants.{Ns, Microdesc}
+use Rattle.frame_values.specs.{Arguments.{arguments_of, front, others, field, next}, Fields.span_if, Values.no_digest}
+use Rattle.relay_entries.specs.{Fields.{identity, with_argument}, Lines.no_bandwidths}
+use Rattle.relay_entries.specs.declared.said.{Bandwidths.Bandwidths, RelayLine.RelayLine}
+use Rattle.consensus_terms.specs.declared.flavour.Flavour.{Flavour, TheVariants.{Ns, Microdesc}}
 use Rattle.consensus_terms.specs.declared.router.Bandwidth.{Bandwidth}
 use Rattle.consensus_frame.specs.declared.line.Said.{Said}
 

@@ -2,44 +2,29 @@
 -- formats").
 use Rattle.std.specs.Prelude.{ℕ, Bool, true, false, List, [], ◌∷◌, Option, None, Result, Ok, Err, codes, if◌then◌else◌}
 use Rattle.item_terms.specs.Items.{Item}
-use Rattle.frame_terms.specs.declared.fault.FrameFault.{FrameFault}
-use Rattle.frame_terms.specs.declared.keyword.Keyword.{Keyword}
+use Rattle.frame_terms.specs.declared.{fault.FrameFault.FrameFault, keyword.Keyword.Keyword, row.Count.TheVariants.One}
+use Rattle.frame_terms.specs.declared.{row.{Count.TheVariants.{Optional, Many}, Row.Row}, section.Again.Again}
+use Rattle.frame_terms.specs.{declared.section.Shape.Shape, Rows.row, Tables.Tables}
 use Rattle.frame_terms.specs.declared.keyword.Keyword.TheVariants as the
-use Rattle.frame_terms.specs.declared.row.Count.TheVariants.{One, Optional, Many}
-use Rattle.frame_terms.specs.declared.row.Row.{Row}
-use Rattle.frame_terms.specs.declared.section.Again.{Again}
 use Rattle.frame_terms.specs.declared.section.Again.TheVariants as again
-use Rattle.frame_terms.specs.declared.section.Shape.{Shape}
-use Rattle.frame_terms.specs.Rows.{row}
-use Rattle.frame_terms.specs.Tables.{Tables}
-use Rattle.frame_values.specs.declared.found.VoteSignature.{VoteSignature}
-use Rattle.frame_values.specs.declared.values.Value.{Value}
-use Rattle.frame_values.specs.declared.values.Value.TheVariants as value
-use Rattle.frame_values.specs.Faults.{at_place}
-use Rattle.frame_values.specs.Arguments.{next}
-use Rattle.frame_values.specs.Lines.{literal, time_of, delays_of, flags_of, rest_of, source_of}
+use Rattle.frame_values.specs.{declared.{found.VoteSignature.VoteSignature, values.Value.Value}, Faults.at_place}
+use Rattle.frame_values.specs.{Arguments.next, Lines.{literal, time_of, delays_of, flags_of, rest_of, source_of}}
 use Rattle.frame_values.specs.Signatures.{known_signature_of, space_of}
-use Rattle.value_groups.specs.ListLines.{params_of, protocols_of, versions_of}
-use Rattle.relay_entries.specs.declared.listed.Listed.{Listed}
+use Rattle.frame_values.specs.declared.values.Value.TheVariants as value
+use Rattle.value_groups.specs.{ListLines.{params_of, protocols_of, versions_of}, Lines.random_of}
+use Rattle.relay_entries.specs.{declared.listed.Listed.Listed, Lines.{entry_value, is_ignored, lifted_entry_value}}
+use Rattle.relay_entries.specs.{Listing.{none_listed, note_entry}, Tables.entry_shape}
 use Rattle.relay_entries.specs.declared.said.EntryKind.TheVariants as entry
 use Rattle.relay_entries.specs.declared.said.EntryValue.TheVariants as said
-use Rattle.relay_entries.specs.Lines.{entry_value, is_ignored, lifted_entry_value}
-use Rattle.relay_entries.specs.Listing.{none_listed, note_entry}
-use Rattle.relay_entries.specs.Tables.{entry_shape}
-use Rattle.value_groups.specs.Lines.{random_of}
-use Rattle.consensus_terms.specs.declared.flavour.Flavour.{Flavour}
-use Rattle.consensus_terms.specs.declared.flavour.Flavour.TheVariants.{Ns, Microdesc}
-use Rattle.consensus_frame.specs.declared.across.Across.{Across}
-use Rattle.consensus_frame.specs.declared.rows.ConsensusKind.{ConsensusKind}
+use Rattle.consensus_terms.specs.declared.flavour.Flavour.{Flavour, TheVariants.{Ns, Microdesc}}
+use Rattle.consensus_frame.specs.declared.{across.Across.Across, rows.ConsensusKind.ConsensusKind}
 use Rattle.consensus_frame.specs.declared.rows.ConsensusKind.TheVariants.{Version, Status, Method, Time, Delays}
-use Rattle.consensus_frame.specs.declared.rows.ConsensusKind.TheVariants.{Versions}
-use Rattle.consensus_frame.specs.declared.rows.ConsensusKind.TheVariants.{KnownFlags, Protocols, Params, Rest}
-use Rattle.consensus_frame.specs.declared.rows.ConsensusKind.TheVariants.{VoteDigest, Random}
-use Rattle.consensus_frame.specs.declared.rows.ConsensusKind.TheVariants.{Nothing, Signature, Relay, Bandwidth}
-use Rattle.consensus_frame.specs.declared.rows.ConsensusKind.TheVariants.{MicroDigest, Entry}
+use Rattle.consensus_frame.specs.declared.rows.ConsensusKind.TheVariants.{Versions, KnownFlags, Protocols, Params, Rest}
+use Rattle.consensus_frame.specs.declared.rows.ConsensusKind.TheVariants.{VoteDigest, Random, Nothing, Signature, Relay}
+use Rattle.consensus_frame.specs.declared.rows.ConsensusKind.TheVariants.{Bandwidth, MicroDigest, Entry}
 use Rattle.consensus_frame.specs.declared.rows.ConsensusKind.TheVariants.{Source as SourceKind}
-use Rattle.consensus_frame.specs.declared.rows.ConsensusSection.{ConsensusSection}
-use Rattle.consensus_frame.specs.declared.rows.ConsensusSection.TheVariants.{Preamble, Source, Router, Footer}
+use Rattle.consensus_frame.specs.declared.rows.ConsensusSection.{ConsensusSection, TheVariants.{Preamble, Source}}
+use Rattle.consensus_frame.specs.declared.rows.ConsensusSection.TheVariants.{Router, Footer}
 use Rattle.consensus_frame.specs.declared.value.ConsensusValue.{ConsensusValue}
 use Rattle.consensus_frame.specs.declared.value.ConsensusValue.TheVariants as own
 use Rattle.consensus_frame.specs.Lines as lines

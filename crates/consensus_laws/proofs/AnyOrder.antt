@@ -1,29 +1,17 @@
 -- Sections whose rows are written in another order than that of their table: such that follow one another are read.
-use Rattle.std.proofs.Common.{◌≡◌, ℕ, true, List, [], ◌∷◌, ◌++◌, Option, None, ap, ◌∙◌}
+use Rattle.std.proofs.{Common.{◌≡◌, ℕ, true, List, [], ◌∷◌, ◌++◌, Option, None, ap, ◌∙◌, Result}, lemmas.Bool.and_parts}
 use Rattle.std.specs.Prelude.{map}
-use Rattle.std.proofs.lemmas.Bool.{and_parts}
-use Rattle.item_terms.specs.Items.{Item}
-use Rattle.item_terms.specs.declared.fault.DocFault.{DocFault}
+use Rattle.item_terms.specs.{Items.Item, declared.fault.DocFault.DocFault}
 use Rattle.dirdoc_grammar.specs.Writing.{all_written, written}
-use Rattle.frame_terms.specs.Documents.{Document, group, onto, read_items}
-use Rattle.frame_terms.specs.Sections.{lacking_keyword}
-use Rattle.frame_terms.specs.Tables.{Tables}
-use Rattle.frame_terms.specs.declared.document.Made.TheVariants.{Opens}
-use Rattle.frame_terms.specs.declared.document.Taken.{Taken}
-use Rattle.frame_terms.specs.declared.fault.ReadRefusal.{ReadRefusal}
-use Rattle.std.proofs.Common.{Result}
-use Rattle.frame_laws.proofs.Both.{both_hold}
-use Rattle.frame_laws.proofs.Entries.{Suits, item_of, taken_at}
-use Rattle.frame_laws.proofs.Following.{MayFollow, entries_all, groups_of, last_first, last_name, last_others, onto_all}
-use Rattle.frame_laws.proofs.MoreRows.{AreInTable, none_after, none_before, rows_more}
-use Rattle.frame_laws.proofs.Places.{both_written}
-use Rattle.frame_laws.proofs.ReadRows.{AreRead, Stand, are_read}
-use Rattle.frame_laws.proofs.Reading.{AreMore, read_on, takes_more}
-use Rattle.frame_laws.proofs.Remembered.{Notes}
-use Rattle.frame_laws.proofs.RowCounts.{counted_once}
-use Rattle.frame_laws.proofs.SaidRows.{AreCounted, AreSaid, are_apart, counted, entries_of, lack, rows_of}
-use Rattle.frame_laws.proofs.Sections.{Section, end_of, entries_in, others_in, rows_in, second_place, taken_in}
-use Rattle.frame_laws.proofs.Steps.{opening}
+use Rattle.frame_terms.specs.{Documents.{Document, group, onto, read_items}, Sections.lacking_keyword, Tables.Tables}
+use Rattle.frame_terms.specs.declared.{document.{Made.TheVariants.Opens, Taken.Taken}, fault.ReadRefusal.ReadRefusal}
+use Rattle.frame_laws.proofs.{Both.both_hold, Entries.{Suits, item_of, taken_at}, Following.{MayFollow, entries_all}}
+use Rattle.frame_laws.proofs.{Following.{groups_of, last_first, last_name, last_others, onto_all}, MoreRows.AreInTable}
+use Rattle.frame_laws.proofs.{MoreRows.{none_after, none_before, rows_more}, Places.both_written, ReadRows.AreRead}
+use Rattle.frame_laws.proofs.{ReadRows.{Stand, are_read}, Reading.{AreMore, read_on, takes_more}, Remembered.Notes}
+use Rattle.frame_laws.proofs.{RowCounts.counted_once, SaidRows.{AreCounted, AreSaid, are_apart, counted, entries_of}}
+use Rattle.frame_laws.proofs.{SaidRows.{lack, rows_of}, Sections.{Section, end_of, entries_in, others_in, rows_in}}
+use Rattle.frame_laws.proofs.{Sections.{second_place, taken_in}, Steps.opening}
 
 -- The rows of the section are of its table, no two have one keyword, and each says what it asks for. What is taken of
 -- them lacks nothing.

@@ -1,28 +1,17 @@
 -- A date and a time of day that are read make a moment of the calendar.
-use Rattle.std.proofs.Common.{◌≡◌, ℕ, ◌+◌, ◌*◌, ◌<◌, ◌≤◌, Bool, true, false, List, length, Option, Some, None, Result, Ok, Err}
-use Rattle.std.proofs.Common.{refl, ap, subst, arith, pos, unsigned_abs}
-use Rattle.std.specs.Prelude.{◌==◌, ◌&&◌, nat_le, slice_index, slice_range, if◌then◌else◌}
-use Rattle.std.specs.Str.Parse.{digits_value}
-use Rattle.std.proofs.lemmas.Bool.{and_parts, leb-true}
-use Rattle.jiff_core.specs.Calendar.{IsCivilDate, days_from_civil, days_in_month}
-use Rattle.jiff_core.proofs.SignedLemmas.{signed_arith}
+use Rattle.std.proofs.Common.{◌≡◌, ℕ, ◌+◌, ◌*◌, ◌<◌, ◌≤◌, Bool, true, false, List, length, Option, Some, None, Result}
+use Rattle.std.proofs.{Common.{Ok, Err, refl, ap, subst, arith, pos, unsigned_abs}, lemmas.Bool.{and_parts, leb-true}}
+use Rattle.std.specs.{Prelude.{◌==◌, ◌&&◌, nat_le, slice_index, slice_range, if◌then◌else◌}, Str.Parse.digits_value}
+use Rattle.jiff_core.{specs.Calendar.{IsCivilDate, days_from_civil, days_in_month}, proofs.SignedLemmas.signed_arith}
 use Rattle.item_terms.specs.Items.{Item}
 use Rattle.dir_bytes.specs.Fields.{address, date, day_of, day_of_parts, is_numeral, number, seconds_of, time_of_day}
 use Rattle.dir_bytes.proofs.Calendars.{day_number}
-use Rattle.dir_values.specs.Arguments.{Argument}
-use Rattle.dir_values.specs.Digests.{digest1}
-use Rattle.dir_values.specs.Names.{is_nickname}
-use Rattle.dir_values.specs.Numbers.{port_of}
-use Rattle.dir_values.specs.declared.digest.Digest1.{Digest1}
-use Rattle.dir_values.specs.declared.digest.Fingerprint.{Fingerprint}
-use Rattle.frame_values.specs.Arguments.{arguments_of, field, front, next, others}
-use Rattle.frame_values.specs.Fields.{span_if}
-use Rattle.frame_values.specs.Lines.{time_of}
-use Rattle.frame_values.specs.Parts.{moment_of}
-use Rattle.frame_values.specs.declared.found.Span.{Span}
-use Rattle.relay_entries.specs.Fields.{identity}
+use Rattle.dir_values.specs.{Arguments.Argument, Digests.digest1, Names.is_nickname, Numbers.port_of}
+use Rattle.dir_values.specs.declared.digest.{Digest1.Digest1, Fingerprint.Fingerprint}
+use Rattle.frame_values.specs.{Arguments.{arguments_of, field, front, next, others}, Fields.span_if, Lines.time_of}
+use Rattle.frame_values.specs.{Parts.moment_of, declared.found.Span.Span}
+use Rattle.relay_entries.specs.{Fields.identity, declared.said.RelayLine.RelayLine}
 use Rattle.relay_entries.specs.Lines as vote
-use Rattle.relay_entries.specs.declared.said.RelayLine.{RelayLine}
 use Rattle.consensus_terms.specs.declared.flavour.Flavour.{Flavour}
 use Rattle.consensus_frame.specs.Lines.{after_digest, digest_here}
 use Rattle.consensus_frame.specs.Lines as consensus

@@ -1,60 +1,41 @@
 -- A consensus that was written is read again.
 use Rattle.std.proofs.Common.{◌≡◌, ℕ, ◌+◌, Bool, true, false, List, [], ◌∷◌, ◌++◌, length, Option, Some, None, Result}
-use Rattle.std.proofs.Common.{Ok, refl, sym, ap, subst, ◌∙◌, append-nil, length-append}
-use Rattle.std.specs.Prelude.{◌&&◌, codes, map, if◌then◌else◌}
-use Rattle.std.specs.Str.{bytes_eq}
-use Rattle.std.specs.List.{fold, join_with_byte}
-use Rattle.item_terms.specs.Items.{Contents, contents, contents_of, items_of, nothing}
-use Rattle.item_terms.specs.Words.{begins_dash}
+use Rattle.std.{proofs.Common.{Ok, refl, sym, ap, subst, ◌∙◌, append-nil, length-append}, specs.Prelude.{◌&&◌, codes}}
+use Rattle.std.specs.{Prelude.{map, if◌then◌else◌}, Str.bytes_eq, List.{fold, join_with_byte}}
+use Rattle.item_terms.specs.{Items.{Contents, contents, contents_of, items_of, nothing}, Words.begins_dash}
 use Rattle.dir_values.specs.Arguments.{Argument}
 use Rattle.grammar_laws.proofs.ItemsAgain.{items_again}
 use Rattle.dirdoc_grammar.specs.Writing.{AreWritable, NewItem, all_written, in_front, is_open, items_text, written}
-use Rattle.frame_terms.specs.Documents.{document_of, finish, group}
-use Rattle.frame_terms.specs.Keywords.{same}
+use Rattle.frame_terms.specs.{Documents.{document_of, finish, group}, Keywords.same}
 use Rattle.frame_terms.specs.declared.fault.ReadRefusal.{ReadRefusal}
 use Rattle.frame_terms.specs.declared.keyword.Keyword.TheVariants as the
-use Rattle.frame_values.specs.Arguments.{front, others}
-use Rattle.frame_values.specs.Values.{item_at}
-use Rattle.frame_laws.proofs.Entries.{item_of}
-use Rattle.frame_laws.proofs.Groups.{groups_in}
-use Rattle.frame_laws.proofs.Places.{after_all, after_all-append}
-use Rattle.frame_laws.proofs.ReadRows.{Stand, both_stand, row_read}
-use Rattle.frame_laws.proofs.RowValues.{text_entry_if, text_if_said}
-use Rattle.frame_laws.proofs.Sections.{entries_in, second_place, section_is_read, taken_in}
-use Rattle.frame_laws.proofs.Words.{arguments_of_words, placed}
-use Rattle.frame_laws.proofs.WrittenItems.{start_of}
-use Rattle.frame_laws.proofs.WrittenRows.{ends_with_text, stand_written, text_of_entries}
-use Rattle.consensus_terms.specs.Signed.{in_order, signed}
-use Rattle.consensus_terms.specs.Texts.{facts_text, version_words}
-use Rattle.consensus_terms.specs.declared.consensus.ConsensusFacts.{ConsensusFacts}
-use Rattle.consensus_terms.specs.declared.consensus.SignedConsensus.{SignedConsensus}
-use Rattle.consensus_terms.specs.declared.flavour.Flavour.{Flavour}
-use Rattle.consensus_terms.specs.declared.flavour.Flavour.TheVariants.{Ns, Microdesc}
+use Rattle.frame_values.specs.{Arguments.{front, others}, Values.item_at}
+use Rattle.frame_laws.proofs.{Entries.item_of, Groups.groups_in, Places.{after_all, after_all-append}, ReadRows.Stand}
+use Rattle.frame_laws.proofs.{ReadRows.{both_stand, row_read}, RowValues.{text_entry_if, text_if_said}}
+use Rattle.frame_laws.proofs.{Sections.{entries_in, second_place, section_is_read, taken_in}, Words.arguments_of_words}
+use Rattle.frame_laws.proofs.{Words.placed, WrittenItems.start_of, WrittenRows.{ends_with_text, stand_written}}
+use Rattle.frame_laws.proofs.WrittenRows.{text_of_entries}
+use Rattle.consensus_terms.specs.{Signed.{in_order, signed}, Texts.{facts_text, version_words}}
+use Rattle.consensus_terms.specs.declared.consensus.{ConsensusFacts.ConsensusFacts, SignedConsensus.SignedConsensus}
+use Rattle.consensus_terms.specs.declared.flavour.Flavour.{Flavour, TheVariants.{Ns, Microdesc}}
 use Rattle.consensus_terms.specs.declared.signature.SignatureLine.{SignatureLine}
-use Rattle.consensus_frame.specs.Tables.{consensus_tables}
+use Rattle.consensus_frame.specs.{Tables.consensus_tables, declared.value.ConsensusValue.ConsensusValue}
 use Rattle.consensus_frame.specs.declared.rows.ConsensusSection.TheVariants as section
-use Rattle.consensus_frame.specs.declared.value.ConsensusValue.{ConsensusValue}
 use Rattle.consensus_doc.specs.Drafts.{all_signatures, no_draft, signed_end, text_at, with_section}
 use Rattle.consensus_doc.specs.Reading.{consensus_in, consensus_of, flavour_of, flavour_of_item, max_consensus}
-use Rattle.consensus_doc.specs.Reading.{signed_range, with_consensus}
-use Rattle.consensus_doc.specs.Keeping.{Kept, with_draft}
-use Rattle.consensus_laws.specs.Again.{ConsensusesAreReadAgain, ConsensusesInOrderAreTheSame}
-use Rattle.consensus_laws.specs.Again.{IsInRange, IsSignatureInRange, facts_as_read}
-use Rattle.consensus_laws.specs.Again.{known_signatures, signed_of}
-use Rattle.consensus_laws.specs.Items.{consensus_items, unsigned_items, words_item}
-use Rattle.consensus_laws.proofs.ConsensusItems.{version_are}
+use Rattle.consensus_doc.specs.{Reading.{signed_range, with_consensus}, Keeping.{Kept, with_draft}}
+use Rattle.consensus_laws.specs.Again.{ConsensusesAreReadAgain, ConsensusesInOrderAreTheSame, IsInRange}
+use Rattle.consensus_laws.specs.Again.{IsSignatureInRange, facts_as_read, known_signatures, signed_of}
+use Rattle.consensus_laws.{specs.Items.{consensus_items, unsigned_items, words_item}, proofs.ConsensusItems.version_are}
 use Rattle.consensus_laws.proofs.ConsensusKept.{drafts_same, keeps, routers_kept, sources_kept, with_sources}
 use Rattle.consensus_laws.proofs.ConsensusRead.{ConsensusDocument, all_entries, document_read, footer_place}
 use Rattle.consensus_laws.proofs.ConsensusRead.{in_sections, its_footer, its_groups, its_preamble, its_relays}
 use Rattle.consensus_laws.proofs.ConsensusRead.{its_routers, its_sources, routers_place, sources_place}
-use Rattle.consensus_laws.proofs.ConsensusRows.{footer_written, preamble_written}
-use Rattle.consensus_laws.proofs.ConsensusSame.{before_signatures, consensus_same, in_routers, in_sources}
-use Rattle.consensus_laws.proofs.ConsensusSame.{unsigned_entries, unsigned_same}
-use Rattle.consensus_laws.proofs.ConsensusSays.{preamble_says}
-use Rattle.consensus_laws.proofs.ConsensusTexts.{consensus_is, facts_are}
-use Rattle.consensus_laws.proofs.RouterNotes.{all_listed}
-use Rattle.consensus_laws.proofs.SignatureOrder.{each_in_order}
-use Rattle.consensus_laws.proofs.SignatureSays.{ends_behind, signatures_say, signed_end_is}
+use Rattle.consensus_laws.proofs.{ConsensusRows.{footer_written, preamble_written}, ConsensusSame.before_signatures}
+use Rattle.consensus_laws.proofs.ConsensusSame.{consensus_same, in_routers, in_sources, unsigned_entries, unsigned_same}
+use Rattle.consensus_laws.proofs.{ConsensusSays.preamble_says, ConsensusTexts.{consensus_is, facts_are}}
+use Rattle.consensus_laws.proofs.{RouterNotes.all_listed, SignatureOrder.each_in_order, SignatureSays.ends_behind}
+use Rattle.consensus_laws.proofs.SignatureSays.{signatures_say, signed_end_is}
 
 -- ---- its items stand in its text
 

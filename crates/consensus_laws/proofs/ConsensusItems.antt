@@ -1,58 +1,32 @@
 -- Each item of a consensus that is written says what its row asks for.
-use Rattle.std.proofs.Common.{◌≡◌, ℕ, ◌≤◌, false, List, [], ◌∷◌, Some, None, Result, Ok, refl, ap}
-use Rattle.std.proofs.Common.{arith}
-use Rattle.std.specs.Prelude.{codes, decimal}
-use Rattle.std.specs.List.{join_with_byte}
-use Rattle.std.proofs.lemmas.List.Elements.{All-cons, All-nil}
+use Rattle.std.proofs.Common.{◌≡◌, ℕ, ◌≤◌, false, List, [], ◌∷◌, Some, None, Result, Ok, refl, ap, arith}
+use Rattle.std.{proofs.lemmas.List.Elements.{All-cons, All-nil}, specs.{Prelude.{codes, decimal}, List.join_with_byte}}
 use Rattle.item_terms.specs.Items.{Item}
-use Rattle.dir_bytes.specs.FieldTexts.{hex_text}
-use Rattle.dir_bytes.proofs.ReadAgain.{number-decimal}
-use Rattle.dir_values.specs.Arguments.{Argument}
-use Rattle.dir_values.specs.Digests.{key_digest}
-use Rattle.dir_values.specs.FlagSets.{set_text}
-use Rattle.dir_values.specs.Numbers.{number_of}
+use Rattle.dir_bytes.{specs.FieldTexts.hex_text, proofs.ReadAgain.number-decimal}
+use Rattle.dir_values.specs.{Arguments.Argument, Digests.key_digest, FlagSets.set_text, Numbers.number_of}
 use Rattle.dir_values.specs.declared.digest.Digest1.{Digest1}
 use Rattle.dirdoc_grammar.specs.Writing.{written}
-use Rattle.frame_terms.specs.Rows.{row}
-use Rattle.frame_terms.specs.declared.keyword.Keyword.{Keyword}
-use Rattle.frame_terms.specs.declared.keyword.Keyword.TheVariants as the
-use Rattle.frame_terms.specs.declared.row.Count.{Count}
-use Rattle.frame_terms.specs.declared.row.Count.TheVariants.{One}
+use Rattle.frame_terms.specs.{Rows.row, declared.{keyword.Keyword.Keyword, row.Count.{Count, TheVariants.One}}}
 use Rattle.frame_terms.specs.declared.row.Row.{Row}
-use Rattle.frame_values.specs.Arguments.{arguments_of, next}
-use Rattle.frame_values.specs.Faults.{at_place}
-use Rattle.frame_values.specs.Items.{bare}
-use Rattle.frame_values.specs.Ranges.{AreTwenty}
-use Rattle.frame_values.specs.declared.found.DirSource.{DirSource}
-use Rattle.frame_values.specs.declared.found.Span.{Span}
-use Rattle.frame_values.specs.declared.values.Value.{Value}
+use Rattle.frame_terms.specs.declared.keyword.Keyword.TheVariants as the
+use Rattle.frame_values.specs.{Arguments.{arguments_of, next}, Faults.at_place, Items.bare, Ranges.AreTwenty}
+use Rattle.frame_values.specs.declared.{found.{DirSource.DirSource, Span.Span}, values.Value.Value}
 use Rattle.frame_values.specs.declared.values.Value.TheVariants as value
-use Rattle.frame_laws.proofs.Entries.{AlwaysSuits, Entry, item_of}
-use Rattle.frame_laws.proofs.RowValues.{own_entry, silent_entry, text_entry}
-use Rattle.frame_laws.proofs.SaidRows.{IsSaid, RowSays}
-use Rattle.frame_laws.proofs.Sections.{Section}
-use Rattle.frame_laws.proofs.Words.{AreWords, IsWord, arguments_of_word, arguments_of_words, placed, two_words}
-use Rattle.frame_laws.proofs.Words.{word_of_identity, word_of_number}
+use Rattle.frame_laws.proofs.{Entries.{AlwaysSuits, Entry, item_of}, RowValues.{own_entry, silent_entry, text_entry}}
+use Rattle.frame_laws.proofs.{SaidRows.{IsSaid, RowSays}, Sections.Section, Words.{AreWords, IsWord, arguments_of_word}}
+use Rattle.frame_laws.proofs.Words.{arguments_of_words, placed, two_words, word_of_identity, word_of_number}
 use Rattle.frame_laws.proofs.WrittenItems.{key_again, literal-written, start_of}
-use Rattle.group_laws.specs.LineAgain.{source_at}
-use Rattle.group_laws.proofs.WrittenDelays.{flags_again}
-use Rattle.group_laws.proofs.ListRows.{HasLists, ListKinds}
-use Rattle.group_laws.proofs.Readings.{Reads}
-use Rattle.group_laws.proofs.SourceRows.{HasRests, HasSources}
-use Rattle.group_laws.proofs.SourceRows as group
+use Rattle.group_laws.{specs.LineAgain.{source_at, AreFlagsInRange}, proofs.WrittenDelays.flags_again}
+use Rattle.group_laws.proofs.{ListRows.{HasLists, ListKinds}, Readings.Reads, SourceRows.{HasRests, HasSources}}
 use Rattle.group_laws.proofs.TimeRows.{HasTimes}
-use Rattle.group_laws.specs.LineAgain.{AreFlagsInRange}
-use Rattle.consensus_terms.specs.Texts.{source_words, version_words}
-use Rattle.consensus_terms.specs.declared.consensus.SourceLine.{SourceLine}
-use Rattle.consensus_terms.specs.declared.flavour.Flavour.{Flavour}
-use Rattle.consensus_terms.specs.declared.flavour.Flavour.TheVariants.{Ns, Microdesc}
-use Rattle.consensus_frame.specs.Lines.{method_of, version_of, vote_digest_of}
-use Rattle.consensus_frame.specs.Tables.{consensus_tables, ignores, signature_of, value_at}
-use Rattle.consensus_frame.specs.declared.across.Across.{Across}
-use Rattle.consensus_frame.specs.declared.rows.ConsensusKind.{ConsensusKind}
-use Rattle.consensus_frame.specs.declared.rows.ConsensusKind.TheVariants as kind
-use Rattle.consensus_frame.specs.declared.rows.ConsensusSection.{ConsensusSection}
+use Rattle.group_laws.proofs.SourceRows as group
+use Rattle.consensus_terms.specs.{Texts.{source_words, version_words}, declared.consensus.SourceLine.SourceLine}
+use Rattle.consensus_terms.specs.declared.flavour.Flavour.{Flavour, TheVariants.{Ns, Microdesc}}
+use Rattle.consensus_frame.specs.{Lines.{method_of, version_of, vote_digest_of}, Tables.{consensus_tables, ignores}}
+use Rattle.consensus_frame.specs.{Tables.{signature_of, value_at}, declared.across.Across.Across}
+use Rattle.consensus_frame.specs.declared.rows.{ConsensusKind.ConsensusKind, ConsensusSection.ConsensusSection}
 use Rattle.consensus_frame.specs.declared.value.ConsensusValue.{ConsensusValue}
+use Rattle.consensus_frame.specs.declared.rows.ConsensusKind.TheVariants as kind
 use Rattle.consensus_frame.specs.declared.value.ConsensusValue.TheVariants as own
 use Rattle.consensus_laws.specs.Again.{IsAuthorityInRange}
 

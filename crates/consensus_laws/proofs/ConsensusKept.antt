@@ -1,29 +1,18 @@
 -- What is kept of the sections of a consensus that was written, one after the other.
 use Rattle.std.proofs.Common.{◌≡◌, ℕ, List, [], ◌∷◌, ◌++◌, refl, sym, ap, ◌∙◌, append-nil, append_assoc}
-use Rattle.std.specs.Prelude.{All, map}
-use Rattle.std.specs.List.{fold}
-use Rattle.std.proofs.lemmas.List.Elements.{All-head, All-tail}
+use Rattle.std.{proofs.lemmas.List.Elements.{All-head, All-tail}, specs.{Prelude.{All, map}, List.fold}}
 use Rattle.frame_terms.specs.declared.document.Group.{Group}
 use Rattle.frame_values.specs.declared.values.Value.{Value}
-use Rattle.frame_laws.proofs.Following.{entries_all}
-use Rattle.frame_laws.proofs.Groups.{groups_in}
-use Rattle.frame_laws.proofs.ReadRows.{Stand, both_stand}
-use Rattle.frame_laws.proofs.Sections.{end_of, entries_in, section_is_read}
-use Rattle.consensus_terms.specs.declared.consensus.SourceLine.{SourceLine}
-use Rattle.consensus_terms.specs.declared.router.Routerline.{Routerline}
-use Rattle.consensus_frame.specs.Tables.{consensus_tables}
-use Rattle.consensus_frame.specs.declared.rows.ConsensusSection.{ConsensusSection}
+use Rattle.frame_laws.proofs.{Following.entries_all, Groups.groups_in, ReadRows.{Stand, both_stand}, Sections.end_of}
+use Rattle.frame_laws.proofs.Sections.{entries_in, section_is_read}
+use Rattle.consensus_terms.specs.declared.{consensus.SourceLine.SourceLine, router.Routerline.Routerline}
+use Rattle.consensus_frame.specs.{Tables.consensus_tables, declared.rows.ConsensusSection.ConsensusSection}
 use Rattle.consensus_frame.specs.declared.value.ConsensusValue.{ConsensusValue}
-use Rattle.consensus_doc.specs.Drafts.{with_section}
-use Rattle.consensus_doc.specs.Keeping.{Kept, kept_with_section, with_draft}
+use Rattle.consensus_doc.specs.{Drafts.with_section, Keeping.{Kept, kept_with_section, with_draft}}
 use Rattle.consensus_laws.specs.Again.{IsAuthorityInRange, IsRouterInRange, router_as_read}
-use Rattle.consensus_laws.proofs.AnyOrder.{whole_is_read}
-use Rattle.consensus_laws.proofs.ConsensusRows.{source_section, source_written}
-use Rattle.consensus_laws.proofs.ConsensusSays.{source_says}
-use Rattle.consensus_laws.proofs.RouterNotes.{IsListed}
-use Rattle.consensus_laws.proofs.RouterRows.{router_section}
-use Rattle.consensus_laws.proofs.RouterWhole.{router_whole}
-use Rattle.consensus_laws.proofs.RouterSays.{router_says}
+use Rattle.consensus_laws.proofs.{AnyOrder.whole_is_read, ConsensusRows.{source_section, source_written}}
+use Rattle.consensus_laws.proofs.{ConsensusSays.source_says, RouterNotes.IsListed, RouterRows.router_section}
+use Rattle.consensus_laws.proofs.{RouterWhole.router_whole, RouterSays.router_says}
 
 -- a section of a consensus with its items
 abbrev pub ConsensusGroup : Type 0

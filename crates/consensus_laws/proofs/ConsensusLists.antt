@@ -1,34 +1,21 @@
 -- The lists of a consensus, row by row: each is read as the list that it was written for.
-use Rattle.std.proofs.Common.{◌≡◌, ℕ, List, [], ◌∷◌, None, refl, ap}
-use Rattle.std.specs.Prelude.{ℤ, Result}
+use Rattle.std.{proofs.Common.{◌≡◌, ℕ, List, [], ◌∷◌, None, refl, ap}, specs.Prelude.{ℤ, Result}}
 use Rattle.dir_values.specs.declared.refusal.ValueRefusal.{ValueRefusal}
-use Rattle.frame_terms.specs.declared.document.Taken.{Taken}
-use Rattle.frame_terms.specs.declared.keyword.Keyword.{Keyword}
+use Rattle.frame_terms.specs.declared.{document.Taken.Taken, keyword.Keyword.Keyword}
 use Rattle.frame_terms.specs.declared.keyword.Keyword.TheVariants as the
-use Rattle.frame_values.specs.Values.{item_at, text_if}
-use Rattle.frame_values.specs.declared.values.Value.{Value}
-use Rattle.frame_laws.proofs.Both.{both_hold}
-use Rattle.frame_laws.proofs.ReadRows.{IsRead}
-use Rattle.frame_laws.proofs.SaidRows.{AreSaid}
-use Rattle.group_laws.specs.Lists.{some_list}
-use Rattle.group_laws.proofs.ListRows.{AreParamsWithin, if_list, list_back}
+use Rattle.frame_values.specs.{Values.{item_at, text_if}, declared.values.Value.Value}
+use Rattle.frame_laws.proofs.{Both.both_hold, ReadRows.IsRead, SaidRows.AreSaid}
+use Rattle.group_laws.{specs.Lists.some_list, proofs.ListRows.{AreParamsWithin, if_list, list_back}}
 use Rattle.group_laws.proofs.ListRows as group
-use Rattle.list_values.specs.Params.{params_text}
-use Rattle.list_values.specs.Protocols.{protocols_text}
-use Rattle.list_values.specs.VersionLists.{versions_text}
+use Rattle.list_values.specs.{Params.params_text, Protocols.protocols_text, VersionLists.versions_text}
 use Rattle.list_values.specs.declared.named.Named.{Named}
 use Rattle.value_groups.specs.Listed.{members_of, params_in, protocols_in, versions_in}
 use Rattle.value_laws.specs.Ranges.{AreParamsInRange, AreProtocolsInRange, AreVersionsInRange}
-use Rattle.value_laws.proofs.ParamsAgain.{params_again}
-use Rattle.value_laws.proofs.ProtocolsAgain.{protocols_again}
-use Rattle.value_laws.proofs.VersionsAgain.{versions_again}
-use Rattle.consensus_terms.specs.declared.consensus.ConsensusLists.{ConsensusLists}
-use Rattle.consensus_terms.specs.declared.flavour.Flavour.{Flavour}
-use Rattle.consensus_frame.specs.Tables.{consensus_tables}
-use Rattle.consensus_frame.specs.declared.value.ConsensusValue.{ConsensusValue}
+use Rattle.value_laws.proofs.{ParamsAgain.params_again, ProtocolsAgain.protocols_again, VersionsAgain.versions_again}
+use Rattle.consensus_terms.specs.declared.{consensus.ConsensusLists.ConsensusLists, flavour.Flavour.Flavour}
+use Rattle.consensus_frame.specs.{Tables.consensus_tables, declared.value.ConsensusValue.ConsensusValue}
 use Rattle.consensus_doc.specs.Drafts.{params_at, protocols_at, versions_at}
-use Rattle.consensus_laws.specs.Again.{AreListsInRange}
-use Rattle.consensus_laws.proofs.ConsensusItems.{ConsensusRow, has_lists, list_kinds}
+use Rattle.consensus_laws.{specs.Again.AreListsInRange, proofs.ConsensusItems.{ConsensusRow, has_lists, list_kinds}}
 
 -- ---- the rows of a preamble
 

@@ -1,39 +1,24 @@
 -- The shared random values of a consensus, row by row: each is read as it was written.
-use Rattle.std.proofs.Common.{◌≡◌, ℕ, List, [], ◌∷◌, ◌++◌, Option, Some, None, refl, ap}
-use Rattle.std.specs.Prelude.{IfSome, decimal, map, option_map}
+use Rattle.std.{proofs.Common.{◌≡◌, ℕ, List, [], ◌∷◌, ◌++◌, Option, Some, None, refl, ap}, specs.Prelude.IfSome}
+use Rattle.std.specs.Prelude.{decimal, map, option_map}
 use Rattle.dirdoc_grammar.specs.Writing.{items_text}
-use Rattle.frame_terms.specs.Keywords.{text_of}
-use Rattle.frame_terms.specs.Rows.{row}
-use Rattle.frame_terms.specs.declared.document.Taken.{Taken}
-use Rattle.frame_terms.specs.declared.keyword.Keyword.{Keyword}
-use Rattle.frame_terms.specs.declared.row.Count.TheVariants.{Optional}
-use Rattle.frame_terms.specs.declared.row.Row.{Row}
-use Rattle.frame_values.specs.Items.{item_if}
-use Rattle.frame_values.specs.Values.{item_at}
-use Rattle.frame_values.specs.declared.values.Value.{Value}
+use Rattle.frame_terms.specs.{Keywords.text_of, Rows.row, declared.{document.Taken.Taken, keyword.Keyword.Keyword}}
+use Rattle.frame_terms.specs.declared.row.{Count.TheVariants.Optional, Row.Row}
+use Rattle.frame_values.specs.{Items.item_if, Values.item_at, declared.values.Value.Value}
 use Rattle.frame_values.specs.declared.values.Value.TheVariants as value
-use Rattle.frame_laws.proofs.Both.{both_hold}
-use Rattle.frame_laws.proofs.Entries.{item_of}
-use Rattle.frame_laws.proofs.Passing.{EachPasses}
-use Rattle.frame_laws.proofs.ReadRows.{IsRead, item_of_row}
-use Rattle.frame_laws.proofs.RowCounts.{said_none, said_once}
-use Rattle.frame_laws.proofs.RowValues.{own_entry}
-use Rattle.frame_laws.proofs.Words.{length-word, word_of_number}
-use Rattle.group_laws.specs.LineAgain.{IsRandomInRange}
-use Rattle.group_laws.proofs.WrittenRandoms.{random_again}
-use Rattle.value_groups.specs.Values.{padded_text, random_text}
-use Rattle.value_groups.specs.declared.value.SharedRandom.{SharedRandom}
-use Rattle.consensus_terms.specs.Texts.{random_line}
-use Rattle.consensus_terms.specs.declared.flavour.Flavour.{Flavour}
-use Rattle.consensus_frame.specs.Tables.{consensus_tables}
-use Rattle.consensus_frame.specs.declared.rows.ConsensusKind.{ConsensusKind}
-use Rattle.consensus_frame.specs.declared.rows.ConsensusKind.TheVariants as kind
+use Rattle.frame_laws.proofs.{Both.both_hold, Entries.item_of, Passing.EachPasses, ReadRows.{IsRead, item_of_row}}
+use Rattle.frame_laws.proofs.{RowCounts.{said_none, said_once}, RowValues.own_entry, Words.length-word}
+use Rattle.frame_laws.proofs.Words.{word_of_number}
+use Rattle.group_laws.{specs.LineAgain.IsRandomInRange, proofs.WrittenRandoms.random_again}
+use Rattle.value_groups.specs.{Values.{padded_text, random_text}, declared.value.SharedRandom.SharedRandom}
+use Rattle.consensus_terms.specs.{Texts.random_line, declared.flavour.Flavour.Flavour}
+use Rattle.consensus_frame.specs.{Tables.consensus_tables, declared.rows.ConsensusKind.ConsensusKind}
 use Rattle.consensus_frame.specs.declared.value.ConsensusValue.{ConsensusValue}
+use Rattle.consensus_frame.specs.declared.rows.ConsensusKind.TheVariants as kind
 use Rattle.consensus_frame.specs.declared.value.ConsensusValue.TheVariants as own
 use Rattle.consensus_doc.specs.Saying.{random_in}
 use Rattle.consensus_laws.proofs.ConsensusItems.{ConsensusEntry, ConsensusRow, IsSaidHere, says, suits}
-use Rattle.consensus_laws.proofs.LineTexts.{lines_are}
-use Rattle.consensus_laws.proofs.Quiet.{is_quiet}
+use Rattle.consensus_laws.proofs.{LineTexts.lines_are, Quiet.is_quiet}
 
 -- the row of a line
 abbrev pub random_of_table : Keyword → Row ConsensusKind

@@ -1,56 +1,38 @@
 -- The items of a consensus that was written make its document: the preamble, authorities, relays and the footer.
 use Rattle.std.proofs.Common.{◌≡◌, ℕ, true, List, [], ◌∷◌, ◌++◌, Option, None, Result, Ok, refl, sym, ap, subst, ◌∙◌}
-use Rattle.std.proofs.Common.{append-nil, append_assoc}
-use Rattle.std.specs.Prelude.{map}
+use Rattle.std.{proofs.Common.{append-nil, append_assoc}, specs.Prelude.map}
 use Rattle.item_terms.specs.Items.{Item}
 use Rattle.dirdoc_grammar.specs.Writing.{all_written}
-use Rattle.frame_terms.specs.Documents.{Document, group, onto, read_items, start}
-use Rattle.frame_terms.specs.Keywords.{same}
-use Rattle.frame_terms.specs.Order.{following_sections, must_open}
-use Rattle.frame_terms.specs.declared.document.Group.{Group}
+use Rattle.frame_terms.specs.{Documents.{Document, group, onto, read_items, start}, Keywords.same}
+use Rattle.frame_terms.specs.{Order.{following_sections, must_open}, declared.document.Group.Group}
 use Rattle.frame_terms.specs.declared.fault.ReadRefusal.{ReadRefusal}
 use Rattle.frame_terms.specs.declared.keyword.Keyword.TheVariants as the
 use Rattle.frame_values.specs.declared.values.Value.{Value}
-use Rattle.frame_laws.proofs.Ends.{closed_read}
-use Rattle.frame_laws.proofs.Entries.{after_one, all_taken, item_of, taken_at}
+use Rattle.frame_laws.proofs.{Ends.closed_read, Entries.{after_one, all_taken, item_of, taken_at}, Following.first_read}
+use Rattle.frame_laws.proofs.Following.{groups_of, last_first, last_name, last_others, onto_all, section_read}
+use Rattle.frame_laws.proofs.{Groups.{groups_in, onto_all-last, onto_all-ok}, Passing.notes_passing, Places.after_all}
+use Rattle.frame_laws.proofs.{Places.{all_taken-append, both_written}, Remembered.{Notes, notes_both}}
+use Rattle.frame_laws.proofs.{RowValues.text_entry_if, Sections.{end_of, entries_in, others_in, second_place}}
+use Rattle.frame_laws.proofs.{Sections.{section_whole, taken_in}, Steps.opening}
 use Rattle.frame_laws.proofs.Following as in_table_order
-use Rattle.frame_laws.proofs.Following.{first_read, groups_of, last_first, last_name, last_others, onto_all}
-use Rattle.frame_laws.proofs.Following.{section_read}
-use Rattle.frame_laws.proofs.Groups.{groups_in, onto_all-last, onto_all-ok}
-use Rattle.frame_laws.proofs.Passing.{notes_passing}
-use Rattle.frame_laws.proofs.Places.{after_all, all_taken-append, both_written}
-use Rattle.frame_laws.proofs.Remembered.{Notes, notes_both}
-use Rattle.frame_laws.proofs.RowValues.{text_entry_if}
-use Rattle.frame_laws.proofs.Sections.{end_of, entries_in, others_in, second_place, section_whole, taken_in}
-use Rattle.frame_laws.proofs.Steps.{opening}
-use Rattle.consensus_terms.specs.Signed.{in_order}
-use Rattle.consensus_terms.specs.declared.consensus.SignedConsensus.{SignedConsensus}
-use Rattle.consensus_terms.specs.declared.consensus.SourceLine.{SourceLine}
-use Rattle.consensus_terms.specs.declared.flavour.Flavour.{Flavour}
-use Rattle.consensus_terms.specs.declared.router.Routerline.{Routerline}
-use Rattle.consensus_terms.specs.declared.signature.SignatureLine.{SignatureLine}
-use Rattle.consensus_frame.specs.Tables.{consensus_tables, nothing_across}
-use Rattle.consensus_frame.specs.declared.across.Across.{Across}
-use Rattle.consensus_frame.specs.declared.rows.ConsensusSection.{ConsensusSection}
+use Rattle.consensus_terms.specs.{Signed.in_order, declared.consensus.SignedConsensus.SignedConsensus}
+use Rattle.consensus_terms.specs.declared.{consensus.SourceLine.SourceLine, flavour.Flavour.Flavour}
+use Rattle.consensus_terms.specs.declared.{router.Routerline.Routerline, signature.SignatureLine.SignatureLine}
+use Rattle.consensus_frame.specs.{Tables.{consensus_tables, nothing_across}, declared.across.Across.Across}
+use Rattle.consensus_frame.specs.declared.{rows.ConsensusSection.ConsensusSection, value.ConsensusValue.ConsensusValue}
 use Rattle.consensus_frame.specs.declared.rows.ConsensusSection.TheVariants as section
-use Rattle.consensus_frame.specs.declared.value.ConsensusValue.{ConsensusValue}
-use Rattle.consensus_laws.specs.Again.{IsInRange, IsSignatureInRange}
-use Rattle.consensus_laws.specs.Items.{listed}
-use Rattle.consensus_laws.proofs.AnyOrder as in_any_order
+use Rattle.consensus_laws.specs.{Again.{IsInRange, IsSignatureInRange}, Items.listed}
 use Rattle.consensus_laws.proofs.ConsensusItems.{ConsensusEntry, ConsensusPart, suits_nothing, suits_version}
 use Rattle.consensus_laws.proofs.ConsensusRows.{Follows, footer, footer_after_preamble, footer_after_source, footer_row}
 use Rattle.consensus_laws.proofs.ConsensusRows.{footer_written, preamble, preamble_first, preamble_quiet}
 use Rattle.consensus_laws.proofs.ConsensusRows.{preamble_written, signature_entry, source_first, source_section}
 use Rattle.consensus_laws.proofs.ConsensusSame.{before_signatures, in_routers, in_sources, signatures_in}
-use Rattle.consensus_laws.proofs.ConsensusSame.{unsigned_entries}
-use Rattle.consensus_laws.proofs.ConsensusSays.{ConsensusTaken}
-use Rattle.consensus_laws.proofs.Quiet.{forgotten, is_quiet, text_quiet}
-use Rattle.consensus_laws.proofs.RouterNotes.{after_routers, all_listed, routers_next, MayStand, ComesAfter}
-use Rattle.consensus_laws.proofs.RouterRows.{router_row}
-use Rattle.consensus_laws.proofs.RouterRows.{router_section}
+use Rattle.consensus_laws.proofs.{ConsensusSame.unsigned_entries, ConsensusSays.ConsensusTaken, Quiet.forgotten}
+use Rattle.consensus_laws.proofs.{Quiet.{is_quiet, text_quiet}, RouterNotes.{after_routers, all_listed, routers_next}}
+use Rattle.consensus_laws.proofs.{RouterNotes.{MayStand, ComesAfter}, RouterRows.{router_row, router_section}}
 use Rattle.consensus_laws.proofs.RouterWhole.{footer_after_router, router_after_preamble, router_after_source}
-use Rattle.consensus_laws.proofs.SignatureOrder.{each_in_order}
-use Rattle.consensus_laws.proofs.SourceNotes.{sources_next}
+use Rattle.consensus_laws.proofs.{SignatureOrder.each_in_order, SourceNotes.sources_next}
+use Rattle.consensus_laws.proofs.AnyOrder as in_any_order
 
 abbrev pub ConsensusDocument : Type 0
 ConsensusDocument = Document ConsensusSection (Value ConsensusValue)

@@ -1,46 +1,31 @@
 -- A consensus, row by row of its sections' tables: the preamble, the authorities and the footer.
-use Rattle.std.proofs.Common.{ℕ, List, [], ◌∷◌, ◌++◌, Option, Some, refl}
-use Rattle.std.specs.Prelude.{All, codes}
+use Rattle.std.{proofs.Common.{ℕ, List, [], ◌∷◌, ◌++◌, Option, Some, refl}, specs.Prelude.{All, codes}}
 use Rattle.dir_values.specs.FlagSets.{set_text}
-use Rattle.frame_terms.specs.Keywords.{same}
-use Rattle.frame_terms.specs.Rows.{row}
+use Rattle.frame_terms.specs.{Keywords.same, Rows.row, declared.row.{Count.TheVariants.{Many, One, Optional}, Row.Row}}
 use Rattle.frame_terms.specs.declared.keyword.Keyword.TheVariants as the
-use Rattle.frame_terms.specs.declared.row.Count.TheVariants.{Many, One, Optional}
-use Rattle.frame_terms.specs.declared.row.Row.{Row}
 use Rattle.frame_values.specs.declared.values.Value.TheVariants as value
-use Rattle.frame_laws.proofs.Both.{both_hold}
-use Rattle.frame_laws.proofs.Following.{IsFirst, MayFollow, opener_follows, repeated_follows}
-use Rattle.frame_laws.proofs.ManyRows.{row_of_each, said_of_each}
-use Rattle.frame_laws.proofs.Passing.{EachPasses}
-use Rattle.frame_laws.proofs.RowCounts.{said_once}
-use Rattle.frame_laws.proofs.RowValues.{row_if, silent_entry, text_entry}
-use Rattle.frame_laws.proofs.SaidRows.{AreSaid, row_once}
+use Rattle.frame_laws.proofs.{Both.both_hold, Following.{IsFirst, MayFollow, opener_follows, repeated_follows}}
+use Rattle.frame_laws.proofs.{ManyRows.{row_of_each, said_of_each}, Passing.EachPasses, RowCounts.said_once}
+use Rattle.frame_laws.proofs.{RowValues.{row_if, silent_entry, text_entry}, SaidRows.{AreSaid, row_once}}
 use Rattle.frame_laws.proofs.Sections.{IsWritten, entries_in}
-use Rattle.group_laws.proofs.Readings.{suits_reading}
-use Rattle.group_laws.proofs.SourceRows.{said_rest_if}
-use Rattle.group_laws.proofs.TimeRows.{Times, times_said}
+use Rattle.group_laws.proofs.{Readings.suits_reading, SourceRows.said_rest_if, TimeRows.{Times, times_said}}
 use Rattle.group_laws.proofs.TimeRows as group
-use Rattle.consensus_terms.specs.Signed.{signer_text}
-use Rattle.consensus_terms.specs.declared.consensus.ConsensusFacts.{ConsensusFacts}
-use Rattle.consensus_terms.specs.declared.consensus.SourceLine.{SourceLine}
-use Rattle.consensus_terms.specs.declared.flavour.Flavour.{Flavour}
+use Rattle.consensus_terms.specs.{Signed.signer_text, declared.consensus.ConsensusFacts.ConsensusFacts}
+use Rattle.consensus_terms.specs.declared.{consensus.SourceLine.SourceLine, flavour.Flavour.Flavour}
 use Rattle.consensus_terms.specs.declared.signature.SignatureLine.{SignatureLine}
-use Rattle.consensus_frame.specs.Tables.{consensus_tables}
-use Rattle.consensus_frame.specs.declared.rows.ConsensusKind.{ConsensusKind}
-use Rattle.consensus_frame.specs.declared.rows.ConsensusKind.TheVariants as kind
+use Rattle.consensus_frame.specs.{Tables.consensus_tables, declared.rows.ConsensusKind.ConsensusKind}
 use Rattle.consensus_frame.specs.declared.rows.ConsensusSection.{ConsensusSection}
+use Rattle.consensus_frame.specs.declared.rows.ConsensusKind.TheVariants as kind
 use Rattle.consensus_frame.specs.declared.rows.ConsensusSection.TheVariants as section
 use Rattle.consensus_frame.specs.declared.value.ConsensusValue.TheVariants as own
 use Rattle.consensus_laws.specs.Again.{AreFactsInRange, IsAuthorityInRange, IsSignatureInRange}
-use Rattle.consensus_laws.proofs.ConsensusItems.{ConsensusEntry, ConsensusPart, ConsensusRow, SuitsConsensus}
-use Rattle.consensus_laws.proofs.ConsensusItems.{has_rests, has_signatures, has_times, method_entry, source_entry}
-use Rattle.consensus_laws.proofs.ConsensusItems.{suits_flags, vote_digest_entry}
-use Rattle.consensus_laws.proofs.ConsensusItems.{suits_method, suits_status, suits_vote_digest, version_entry}
-use Rattle.consensus_laws.proofs.ConsensusLists.{param_rows, params_said, protocol_rows, protocols_said, version_rows}
-use Rattle.consensus_laws.proofs.ConsensusLists.{versions_said}
-use Rattle.consensus_laws.proofs.ConsensusRandoms.{random_quiet, random_row, said_random}
-use Rattle.consensus_laws.proofs.Quiet.{both_said, is_quiet, rows_quiet, text_quiet}
-use Rattle.consensus_laws.proofs.SignatureLines.{signature_again, signature_said}
+use Rattle.consensus_laws.proofs.ConsensusItems.{ConsensusEntry, ConsensusPart, ConsensusRow, SuitsConsensus, has_rests}
+use Rattle.consensus_laws.proofs.ConsensusItems.{has_signatures, has_times, method_entry, source_entry, suits_flags}
+use Rattle.consensus_laws.proofs.ConsensusItems.{vote_digest_entry, suits_method, suits_status, suits_vote_digest}
+use Rattle.consensus_laws.proofs.{ConsensusItems.version_entry, ConsensusLists.{param_rows, params_said, protocol_rows}}
+use Rattle.consensus_laws.proofs.ConsensusLists.{protocols_said, version_rows, versions_said}
+use Rattle.consensus_laws.proofs.{ConsensusRandoms.{random_quiet, random_row, said_random}, Quiet.{both_said, is_quiet}}
+use Rattle.consensus_laws.proofs.{Quiet.{rows_quiet, text_quiet}, SignatureLines.{signature_again, signature_said}}
 
 -- ---- the preamble
 

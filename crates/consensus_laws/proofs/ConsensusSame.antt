@@ -1,41 +1,26 @@
 -- The items of a consensus by its sections' rows are those of its text.
 use Rattle.std.proofs.Common.{◌≡◌, ℕ, List, [], ◌∷◌, ◌++◌, Option, Some, None, refl, sym, ap, append_assoc, append-nil}
-use Rattle.std.proofs.Common.{◌∙◌}
-use Rattle.std.specs.Prelude.{map, option_map}
-use Rattle.std.specs.List.{flat_map}
-use Rattle.std.proofs.lemmas.List.{map-append}
-use Rattle.dir_values.specs.FlagSets.{set_text}
-use Rattle.dir_values.specs.declared.digest.Digest2.{Digest2}
+use Rattle.std.{proofs.{Common.◌∙◌, lemmas.List.map-append}, specs.{Prelude.{map, option_map}, List.flat_map}}
+use Rattle.dir_values.specs.{FlagSets.set_text, declared.digest.Digest2.Digest2}
 use Rattle.dirdoc_grammar.specs.Writing.{NewItem}
 use Rattle.frame_terms.specs.declared.keyword.Keyword.{Keyword}
 use Rattle.frame_terms.specs.declared.keyword.Keyword.TheVariants as the
 use Rattle.frame_values.specs.Items.{bare, item_if}
-use Rattle.frame_laws.proofs.Entries.{item_of}
-use Rattle.frame_laws.proofs.Following.{entries_all}
-use Rattle.frame_laws.proofs.RowCounts.{items_of-append}
-use Rattle.frame_laws.proofs.RowValues.{items_if, text_entry, text_entry_if}
-use Rattle.frame_laws.proofs.SaidRows.{items_of}
-use Rattle.frame_laws.proofs.Sections.{entries_in}
-use Rattle.consensus_terms.specs.Signed.{in_order, signature_item}
-use Rattle.consensus_terms.specs.declared.consensus.ConsensusFacts.{ConsensusFacts}
-use Rattle.consensus_terms.specs.declared.consensus.ConsensusLists.{ConsensusLists}
-use Rattle.consensus_terms.specs.declared.consensus.SignedConsensus.{SignedConsensus}
-use Rattle.consensus_terms.specs.declared.consensus.SourceLine.{SourceLine}
-use Rattle.consensus_terms.specs.declared.flavour.Flavour.{Flavour}
-use Rattle.consensus_terms.specs.declared.flavour.Flavour.TheVariants.{Ns, Microdesc}
-use Rattle.consensus_terms.specs.declared.router.Bandwidth.{Bandwidth}
-use Rattle.consensus_terms.specs.declared.router.Routerline.{Routerline}
-use Rattle.consensus_terms.specs.declared.signature.SignatureLine.{SignatureLine}
+use Rattle.frame_laws.proofs.{Entries.item_of, Following.entries_all, RowCounts.items_of-append, RowValues.items_if}
+use Rattle.frame_laws.proofs.{RowValues.{text_entry, text_entry_if}, SaidRows.items_of, Sections.entries_in}
+use Rattle.consensus_terms.specs.{Signed.{in_order, signature_item}, declared.consensus.ConsensusFacts.ConsensusFacts}
+use Rattle.consensus_terms.specs.declared.consensus.{ConsensusLists.ConsensusLists, SignedConsensus.SignedConsensus}
+use Rattle.consensus_terms.specs.declared.{consensus.SourceLine.SourceLine, flavour.Flavour.{Flavour, TheVariants.Ns}}
+use Rattle.consensus_terms.specs.declared.{flavour.Flavour.TheVariants.Microdesc, router.Bandwidth.Bandwidth}
+use Rattle.consensus_terms.specs.declared.{router.Routerline.Routerline, signature.SignatureLine.SignatureLine}
 use Rattle.consensus_frame.specs.declared.value.ConsensusValue.{ConsensusValue}
 use Rattle.consensus_laws.specs.Items.{consensus_items, footer_items, kind_items, listed, m_text, p_text}
-use Rattle.consensus_laws.specs.Items.{preamble_items, random_items}
-use Rattle.consensus_laws.specs.Items.{protocol_items, router_items, source_items, time_items, unsigned_items}
-use Rattle.consensus_laws.specs.Items.{version_items, w_text, words_item, router_words, list_if}
-use Rattle.consensus_laws.proofs.ConsensusItems.{ConsensusEntry, ConsensusRow}
-use Rattle.consensus_laws.proofs.ConsensusLists.{param_rows, protocol_rows, version_rows}
-use Rattle.consensus_laws.proofs.ConsensusRows.{flag_rows, footer, kind_rows, preamble, signature_entry, source_section}
-use Rattle.consensus_laws.proofs.ConsensusRandoms.{random_items_are}
-use Rattle.consensus_laws.proofs.ConsensusRows.{random_rows, time_rows}
+use Rattle.consensus_laws.specs.Items.{preamble_items, random_items, protocol_items, router_items, source_items}
+use Rattle.consensus_laws.specs.Items.{time_items, unsigned_items, version_items, w_text, words_item, router_words}
+use Rattle.consensus_laws.{specs.Items.list_if, proofs.ConsensusItems.{ConsensusEntry, ConsensusRow}}
+use Rattle.consensus_laws.proofs.{ConsensusLists.{param_rows, protocol_rows, version_rows}, ConsensusRows.flag_rows}
+use Rattle.consensus_laws.proofs.ConsensusRows.{footer, kind_rows, preamble, signature_entry, source_section}
+use Rattle.consensus_laws.proofs.{ConsensusRows.{random_rows, time_rows}, ConsensusRandoms.random_items_are}
 use Rattle.consensus_laws.proofs.RouterRows.{m_entries, router_section, w_entries}
 use Rattle.list_values.specs.Params.{params_text}
 

@@ -2,33 +2,23 @@
 use Rattle.std.proofs.Common.{◌≡◌, ℕ, ◌≤◌, List, [], Option, refl, sym, ap, subst, ◌∙◌, arith}
 use Rattle.item_terms.specs.Words.{words_of}
 use Rattle.dir_values.specs.FlagSets.{as_set, set_text}
-use Rattle.frame_terms.specs.Keywords.{same}
-use Rattle.frame_terms.specs.Rows.{row}
-use Rattle.frame_terms.specs.declared.document.Taken.{Taken}
-use Rattle.frame_terms.specs.declared.keyword.Keyword.{Keyword}
-use Rattle.frame_terms.specs.declared.keyword.Keyword.TheVariants as the
+use Rattle.frame_terms.specs.{Keywords.same, Rows.row, declared.{document.Taken.Taken, keyword.Keyword.Keyword}}
 use Rattle.frame_terms.specs.declared.row.Count.TheVariants.{One}
-use Rattle.frame_values.specs.Values.{number_in}
-use Rattle.frame_values.specs.declared.values.Value.{Value}
-use Rattle.frame_laws.proofs.ReadRows.{AreRead, IsRead, item_of_row, row_read}
-use Rattle.frame_laws.proofs.RowValues.{moment_said, text_entry, text_if_said, text_said}
-use Rattle.frame_laws.proofs.SaidRows.{row_once}
-use Rattle.frame_laws.proofs.Sections.{rows_in}
+use Rattle.frame_terms.specs.declared.keyword.Keyword.TheVariants as the
+use Rattle.frame_values.specs.{Values.number_in, declared.values.Value.Value}
+use Rattle.frame_laws.proofs.{ReadRows.{AreRead, IsRead, item_of_row, row_read}, RowValues.{moment_said, text_entry}}
+use Rattle.frame_laws.proofs.{RowValues.{text_if_said, text_said}, SaidRows.row_once, Sections.rows_in}
 use Rattle.frame_laws.proofs.StandingParts.{rest_part}
-use Rattle.group_laws.specs.LineAgain.{AreFlagsInRange}
-use Rattle.group_laws.proofs.WrittenDelays.{flags_again}
-use Rattle.group_laws.proofs.SourceRows.{SourceIs, source_back}
-use Rattle.consensus_terms.specs.declared.consensus.ConsensusFacts.{ConsensusFacts}
-use Rattle.consensus_terms.specs.declared.consensus.SourceLine.{SourceLine}
+use Rattle.group_laws.{specs.LineAgain.AreFlagsInRange, proofs.{WrittenDelays.flags_again, SourceRows.SourceIs}}
+use Rattle.group_laws.proofs.SourceRows.{source_back}
+use Rattle.consensus_terms.specs.declared.consensus.{ConsensusFacts.ConsensusFacts, SourceLine.SourceLine}
 use Rattle.consensus_terms.specs.declared.flavour.Flavour.{Flavour}
-use Rattle.consensus_frame.specs.declared.rows.ConsensusKind.{ConsensusKind}
-use Rattle.consensus_frame.specs.declared.value.ConsensusValue.{ConsensusValue}
-use Rattle.consensus_doc.specs.Drafts.{flags_in, lists_of, method_of, preamble_facts, source_of}
-use Rattle.consensus_doc.specs.Saying.{delays_in, source_in, vote_digest_in}
-use Rattle.consensus_laws.specs.Again.{AreFactsInRange}
-use Rattle.consensus_laws.proofs.ConsensusLists.{params_back, protocols_back, versions_back}
-use Rattle.consensus_laws.proofs.ConsensusRandoms.{random_said}
-use Rattle.consensus_laws.proofs.ConsensusRows.{preamble, source_section}
+use Rattle.consensus_frame.specs.declared.{rows.ConsensusKind.ConsensusKind, value.ConsensusValue.ConsensusValue}
+use Rattle.consensus_doc.specs.{Drafts.{flags_in, lists_of, method_of, preamble_facts, source_of}, Saying.delays_in}
+use Rattle.consensus_doc.specs.Saying.{source_in, vote_digest_in}
+use Rattle.consensus_laws.{specs.Again.AreFactsInRange, proofs.ConsensusLists.{params_back, protocols_back}}
+use Rattle.consensus_laws.proofs.{ConsensusLists.versions_back, ConsensusRandoms.random_said, ConsensusRows.preamble}
+use Rattle.consensus_laws.proofs.ConsensusRows.{source_section}
 
 -- what was taken of a section
 abbrev pub ConsensusTaken : Type 0

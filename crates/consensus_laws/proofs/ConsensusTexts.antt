@@ -1,51 +1,35 @@
 -- The text of a consensus is that of its items.
 use Rattle.std.proofs.Common.{◌≡◌, ℕ, ◌/◌, ◌%◌, ◌<◌, ◌≤◌, Bool, true, false, List, [], ◌∷◌, ◌++◌, length, Option, Some}
-use Rattle.std.proofs.Common.{None, refl, sym, ap, ◌∙◌}
-use Rattle.std.proofs.Common.{append_assoc, length-append, arith}
-use Rattle.std.specs.Prelude.{All, codes, decimal, map, option_map, if◌then◌else◌}
-use Rattle.std.specs.List.{flat_map}
-use Rattle.std.proofs.lemmas.List.Elements.{All-head, All-tail}
-use Rattle.dir_bytes.specs.Causes.{last_moment}
-use Rattle.dir_bytes.specs.FieldTexts.{base64_text, clock_text, date_text, hex_text, moment_text}
-use Rattle.dir_values.specs.FlagSets.{set_text}
-use Rattle.dir_values.specs.declared.digest.Digest2.{Digest2}
+use Rattle.std.proofs.Common.{None, refl, sym, ap, ◌∙◌, append_assoc, length-append, arith}
+use Rattle.std.{proofs.lemmas.List.Elements.{All-head, All-tail}, specs.Prelude.{All, codes, decimal, map, option_map}}
+use Rattle.std.specs.{Prelude.if◌then◌else◌, List.flat_map}
+use Rattle.dir_bytes.specs.{Causes.last_moment, FieldTexts.{base64_text, clock_text, date_text, hex_text, moment_text}}
+use Rattle.dir_values.specs.{FlagSets.set_text, declared.digest.Digest2.Digest2}
 use Rattle.dirdoc_grammar.specs.Writing.{NewItem, item_text, items_text}
-use Rattle.frame_terms.specs.Keywords.{text_of}
-use Rattle.frame_terms.specs.declared.keyword.Keyword.{Keyword}
+use Rattle.frame_terms.specs.{Keywords.text_of, declared.keyword.Keyword.Keyword}
 use Rattle.frame_terms.specs.declared.keyword.Keyword.TheVariants as the
-use Rattle.frame_values.specs.Items.{bare, item_if, moment_item}
-use Rattle.frame_values.proofs.ItemsTexts.{sections}
+use Rattle.frame_values.{specs.Items.{bare, item_if, moment_item}, proofs.ItemsTexts.sections}
 use Rattle.frame_laws.proofs.Words.{length-word, word_of_identity, word_of_nickname, word_of_number, words_of_flags}
-use Rattle.list_values.specs.Params.{params_text}
-use Rattle.list_values.specs.VersionLists.{versions_text}
-use Rattle.list_values.specs.Protocols.{protocols_text}
-use Rattle.group_laws.proofs.WrittenMicros.{word_of_thirty_two}
-use Rattle.group_laws.specs.LineAgain.{AreFlagsInRange}
+use Rattle.list_values.specs.{Params.params_text, VersionLists.versions_text, Protocols.protocols_text}
+use Rattle.group_laws.{proofs.WrittenMicros.word_of_thirty_two, specs.LineAgain.AreFlagsInRange}
 use Rattle.value_groups.specs.Values.{random_text}
-use Rattle.consensus_terms.specs.Lines.{line, named_text}
-use Rattle.consensus_terms.specs.Routers as lines
-use Rattle.consensus_terms.specs.Routers.{is_listed, listed_lines, unmeasured_words}
+use Rattle.consensus_terms.specs.{Lines.{line, named_text}, Routers.{is_listed, listed_lines, unmeasured_words}}
 use Rattle.consensus_terms.specs.Signed.{in_order, signature_item, signature_text, signature_texts, signed}
-use Rattle.consensus_terms.specs.Texts as texts
 use Rattle.consensus_terms.specs.Texts.{body, facts_text, source_words, version_words}
-use Rattle.consensus_terms.specs.declared.consensus.ConsensusFacts.{ConsensusFacts}
-use Rattle.consensus_terms.specs.declared.consensus.ConsensusLists.{ConsensusLists}
-use Rattle.consensus_terms.specs.declared.consensus.SignedConsensus.{SignedConsensus}
-use Rattle.consensus_terms.specs.declared.consensus.SourceLine.{SourceLine}
-use Rattle.consensus_terms.specs.declared.flavour.Flavour.{Flavour}
-use Rattle.consensus_terms.specs.declared.flavour.Flavour.TheVariants.{Ns, Microdesc}
-use Rattle.consensus_terms.specs.declared.router.Bandwidth.{Bandwidth}
-use Rattle.consensus_terms.specs.declared.router.Routerline.{Routerline}
+use Rattle.consensus_terms.specs.declared.consensus.{ConsensusFacts.ConsensusFacts, ConsensusLists.ConsensusLists}
+use Rattle.consensus_terms.specs.declared.consensus.{SignedConsensus.SignedConsensus, SourceLine.SourceLine}
+use Rattle.consensus_terms.specs.declared.flavour.Flavour.{Flavour, TheVariants.{Ns, Microdesc}}
+use Rattle.consensus_terms.specs.declared.router.{Bandwidth.Bandwidth, Routerline.Routerline}
 use Rattle.consensus_terms.specs.declared.signature.SignatureLine.{SignatureLine}
+use Rattle.consensus_terms.specs.Routers as lines
+use Rattle.consensus_terms.specs.Texts as texts
 use Rattle.consensus_laws.specs.Again.{AreFactsInRange, AreListsInRange, IsAuthorityInRange, IsMicroInRange}
-use Rattle.consensus_laws.specs.Again.{IsRouterInRange}
-use Rattle.consensus_laws.specs.Items.{consensus_items, footer_items, kind_items, list_if, listed, m_text, p_text}
-use Rattle.consensus_laws.specs.Items.{preamble_items, protocol_items, router_items, router_words, source_items}
-use Rattle.consensus_laws.specs.Items.{random_items, time_items, unsigned_items, version_items, w_text, words_item}
-use Rattle.consensus_laws.proofs.LineTexts.{filled_words, lines_are, params_are, protocols_are, rest_is}
-use Rattle.consensus_laws.proofs.LineTexts.{versions_are}
-use Rattle.consensus_laws.proofs.ConsensusRandoms.{random_is}
-use Rattle.consensus_laws.proofs.RelayLines.{whole_moment}
+use Rattle.consensus_laws.specs.{Again.IsRouterInRange, Items.{consensus_items, footer_items, kind_items, list_if}}
+use Rattle.consensus_laws.specs.Items.{listed, m_text, p_text, preamble_items, protocol_items, router_items}
+use Rattle.consensus_laws.specs.Items.{router_words, source_items, random_items, time_items, unsigned_items}
+use Rattle.consensus_laws.{specs.Items.{version_items, w_text, words_item}, proofs.LineTexts.{filled_words, lines_are}}
+use Rattle.consensus_laws.proofs.LineTexts.{params_are, protocols_are, rest_is, versions_are}
+use Rattle.consensus_laws.proofs.{ConsensusRandoms.random_is, RelayLines.whole_moment}
 
 -- ---- texts that follow one another
 

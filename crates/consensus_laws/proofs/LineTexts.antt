@@ -1,18 +1,13 @@
 -- The text of an item is its line.
 use Rattle.std.proofs.Common.{◌≡◌, ℕ, ◌<◌, true, List, [], ◌∷◌, ◌++◌, length, Option, Some, None, refl, sym, ap, ◌∙◌}
-use Rattle.std.proofs.Common.{append-nil, length-append, arith}
-use Rattle.std.specs.Prelude.{All, ℤ, map}
-use Rattle.std.specs.List.{flat_map, join_with_byte}
-use Rattle.std.proofs.lemmas.List.Elements.{All-head}
+use Rattle.std.{proofs.{Common.{append-nil, length-append, arith}, lemmas.List.Elements.All-head}, specs.Prelude.All}
+use Rattle.std.specs.{Prelude.{ℤ, map}, List.{flat_map, join_with_byte}}
 use Rattle.dirdoc_grammar.specs.Writing.{item_text, items_text, tail}
-use Rattle.frame_terms.specs.Keywords.{text_of}
-use Rattle.frame_terms.specs.declared.keyword.Keyword.{Keyword}
+use Rattle.frame_terms.specs.{Keywords.text_of, declared.keyword.Keyword.Keyword}
 use Rattle.frame_values.specs.Items.{item_if}
 use Rattle.frame_laws.proofs.Words.{AreWords, IsWord, length-word}
-use Rattle.list_values.specs.Params.{param_text, params_text}
-use Rattle.list_values.specs.Protocols.{protocol_text, protocols_text}
-use Rattle.list_values.specs.VersionLists.{is_version, versions_text}
-use Rattle.list_values.specs.declared.named.Named.{Named}
+use Rattle.list_values.specs.{Params.{param_text, params_text}, Protocols.{protocol_text, protocols_text}}
+use Rattle.list_values.specs.{VersionLists.{is_version, versions_text}, declared.named.Named.Named}
 use Rattle.value_laws.proofs.VersionBytes.{word_of_version}
 use Rattle.group_laws.proofs.WrittenSignatures.{tail_some}
 use Rattle.consensus_terms.specs.Lines.{behind_space, line, list_line, rest_line}

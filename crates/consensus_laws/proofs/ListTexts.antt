@@ -1,26 +1,17 @@
 -- A text in which nothing is wrong xs a line of a list is read xs that list, wherever it stands.
-use Rattle.std.proofs.Common.{◌≡◌, ◌∙◌, ℕ, Bool, true, false, List, [], ◌∷◌, ◌++◌, map, Option, Some, None, Ok}
-use Rattle.std.proofs.Common.{refl, sym, ap}
-use Rattle.std.specs.Prelude.{◌&&◌, ◌||◌, not, if◌then◌else◌}
-use Rattle.std.specs.List.{find}
-use Rattle.std.specs.Option.{option_map}
+use Rattle.std.proofs.Common.{◌≡◌, ◌∙◌, ℕ, Bool, true, false, List, [], ◌∷◌, ◌++◌, map, Option, Some, None, Ok, refl}
+use Rattle.std.{proofs.Common.{sym, ap}, specs.{Prelude.{◌&&◌, ◌||◌, not, if◌then◌else◌}, List.find, Option.option_map}}
 use Rattle.std.specs.Str.{bytes_eq}
-use Rattle.item_terms.specs.Items.{Item, items_from}
-use Rattle.item_terms.specs.Words.{words_of}
-use Rattle.dirdoc_grammar.specs.InPlace.{EachInPlace, InPlace}
-use Rattle.dirdoc_grammar.proofs.Places.{stand_in_place}
-use Rattle.dir_values.specs.Arguments.{Argument, arguments_at, texts_of}
-use Rattle.dir_values.specs.FlagSets.{as_set, flag_set, is_among, is_name, unless_wrong, wrong_flag}
-use Rattle.dir_values.proofs.ArgumentWords.{arguments_words}
+use Rattle.item_terms.specs.{Items.{Item, items_from}, Words.words_of}
+use Rattle.dirdoc_grammar.{specs.InPlace.{EachInPlace, InPlace}, proofs.Places.stand_in_place}
+use Rattle.dir_values.specs.{Arguments.{Argument, arguments_at, texts_of}, FlagSets.{as_set, flag_set, is_among}}
+use Rattle.dir_values.{specs.FlagSets.{is_name, unless_wrong, wrong_flag}, proofs.ArgumentWords.arguments_words}
 use Rattle.frame_laws.proofs.StandingParts.{rest_part}
-use Rattle.frame_values.specs.Lines.{flags_of, rest_of, rest_unless}
-use Rattle.frame_values.specs.Parts.{part}
-use Rattle.frame_values.specs.declared.found.Span.{Span}
-use Rattle.list_values.specs.Params.{its_name, name_in, wrong_param}
-use Rattle.list_values.specs.Params as params
-use Rattle.list_values.specs.Protocols.{is_protocol, wrong_protocol}
-use Rattle.list_values.specs.Protocols as protocols
+use Rattle.frame_values.specs.{Lines.{flags_of, rest_of, rest_unless}, Parts.part, declared.found.Span.Span}
+use Rattle.list_values.specs.{Params.{its_name, name_in, wrong_param}, Protocols.{is_protocol, wrong_protocol}}
 use Rattle.list_values.specs.VersionLists.{are_versions, wrong_version_list}
+use Rattle.list_values.specs.Params as params
+use Rattle.list_values.specs.Protocols as protocols
 use Rattle.list_values.specs.VersionLists as versions
 use Rattle.value_groups.specs.Listed.{members_of}
 use Rattle.consensus_laws.specs.Listing.{EachIsReadWhole, IsReadWhole, ListsAreReadWhole}

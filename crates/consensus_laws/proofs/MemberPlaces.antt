@@ -1,11 +1,8 @@
 -- Each place of a list has a member that stands there: the least number that enough members are at or below.
 use Rattle.std.proofs.Common.{◌≡◌, ◌∙◌, ℕ, zero, suc, ◌+◌, ◌<◌, ◌≤◌, Bool, true, false, cond, List, [], ◌∷◌, length}
-use Rattle.std.proofs.Common.{Option, Some, refl, sym, ap, arith, ⊎_elim}
-use Rattle.std.specs.Prelude.{nat_le, nat_lt, unwrap_or}
-use Rattle.std.specs.List.{count_by, find}
-use Rattle.std.proofs.lemmas.Bool.{and_from, cases_lt, false≢true, le-leb, lt-leb, lt-ltb}
-use Rattle.std.proofs.lemmas.Bool.Decides.{nat_tests}
-use Rattle.std.proofs.lemmas.List.Sums.{sum_by-cons}
+use Rattle.std.proofs.{Common.{Option, Some, refl, sym, ap, arith, ⊎_elim}, lemmas.Bool.{and_from, cases_lt}}
+use Rattle.std.proofs.lemmas.{Bool.{false≢true, le-leb, lt-leb, lt-ltb, Decides.nat_tests}, List.Sums.sum_by-cons}
+use Rattle.std.specs.{Prelude.{nat_le, nat_lt, unwrap_or}, List.{count_by, find}}
 use Rattle.count_terms.specs.Counts.{member_at, middle, stands_at}
 use Rattle.consensus_laws.specs.Members.{IsMemberAt, MembersAreThere}
 

@@ -1,16 +1,12 @@
 -- Items of a consensus of which nothing is remembered: all but those that say who a relay is, and the signatures.
 use Rattle.std.proofs.Common.{◌≡◌, ℕ, Bool, true, false, List, [], ◌∷◌, ◌++◌, Option, Some, None, Ok, refl}
-use Rattle.frame_terms.specs.Tables.{Tables}
-use Rattle.frame_terms.specs.declared.keyword.Keyword.{Keyword}
+use Rattle.frame_terms.specs.{Tables.Tables, declared.keyword.Keyword.Keyword}
 use Rattle.frame_values.specs.declared.values.Value.{Value}
 use Rattle.frame_values.specs.declared.values.Value.TheVariants as value
-use Rattle.frame_laws.proofs.Both.{both_hold}
-use Rattle.frame_laws.proofs.Passing.{EachPasses, IsForgotten, both_pass}
-use Rattle.frame_laws.proofs.RowValues.{text_entry_if}
+use Rattle.frame_laws.proofs.{Both.both_hold, Passing.{EachPasses, IsForgotten, both_pass}, RowValues.text_entry_if}
 use Rattle.frame_laws.proofs.SaidRows.{AreSaid, RowSays, entries_of}
 use Rattle.consensus_terms.specs.declared.flavour.Flavour.{Flavour}
-use Rattle.consensus_frame.specs.Tables.{consensus_tables, note_value}
-use Rattle.consensus_frame.specs.declared.across.Across.{Across}
+use Rattle.consensus_frame.specs.{Tables.{consensus_tables, note_value}, declared.across.Across.Across}
 use Rattle.consensus_frame.specs.declared.value.ConsensusValue.{ConsensusValue}
 use Rattle.consensus_frame.specs.declared.value.ConsensusValue.TheVariants as own
 use Rattle.consensus_laws.proofs.ConsensusItems.{ConsensusRow}

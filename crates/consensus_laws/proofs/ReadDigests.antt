@@ -1,20 +1,16 @@
 -- A digest of another flavour that is read is hex, where it stands.
 use Rattle.std.proofs.Common.{◌≡◌, ℕ, Bool, true, false, List, [], ◌∷◌, Option, Some, None, Result, Ok, refl, sym}
-use Rattle.std.proofs.Common.{subst}
-use Rattle.std.specs.Prelude.{is_some, unwrap_or, if◌then◌else◌}
+use Rattle.std.{proofs.Common.subst, specs.Prelude.{is_some, unwrap_or, if◌then◌else◌}}
 use Rattle.item_terms.specs.Items.{Item, items_from}
 use Rattle.dir_bytes.specs.HexBytes.{hex_bytes}
 use Rattle.dir_values.specs.Arguments.{Argument}
-use Rattle.frame_values.specs.Arguments.{arguments_of, field, front, next, others}
-use Rattle.frame_values.specs.Fields.{is_there, span_of}
-use Rattle.frame_values.specs.Parts.{part}
-use Rattle.frame_values.specs.declared.found.Span.{Span}
+use Rattle.frame_values.specs.{Arguments.{arguments_of, field, front, next, others}, Fields.{is_there, span_of}}
+use Rattle.frame_values.specs.{Parts.part, declared.found.Span.Span}
 use Rattle.detached_frame.specs.Lines.{additional_digest_of, hex, word}
 use Rattle.detached_frame.specs.declared.said.AdditionalDigestLine.{AdditionalDigestLine}
 use Rattle.detached_doc.specs.Facts.{hex_in}
-use Rattle.row_laws.proofs.ItemArguments.{AreFound, IsSound, are_found, front_found, others_found}
-use Rattle.row_laws.proofs.ReadSteps.{ReadAs, any_reads, next_reads, was_read}
-use Rattle.row_laws.proofs.Saying.{EachSound, all_sound}
+use Rattle.row_laws.proofs.{ItemArguments.{AreFound, IsSound, are_found, front_found, others_found}, ReadSteps.ReadAs}
+use Rattle.row_laws.proofs.{ReadSteps.{any_reads, next_reads, was_read}, Saying.{EachSound, all_sound}}
 use Rattle.consensus_laws.specs.HexDigests.{DigestsAreHex, EachSpellsDigest}
 
 -- what stands there is hex

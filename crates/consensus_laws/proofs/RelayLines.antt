@@ -1,53 +1,33 @@
 -- A relay's lines in a consensus that were written are read again: who it is and where, its bandwidth, and the digest
 -- of its microdescriptor.
 use Rattle.std.proofs.Common.{◌≡◌, ℕ, ◌+◌, ◌*◌, ◌/◌, ◌%◌, ◌≤◌, Bool, true, false, List, [], ◌∷◌, ◌++◌, length, Some, Ok}
-use Rattle.std.proofs.Common.{refl, sym, ap}
-use Rattle.std.proofs.Common.{subst, ◌∙◌, arith, append_assoc, Option, None}
-use Rattle.std.specs.Prelude.{codes, decimal, option_map}
+use Rattle.std.proofs.Common.{refl, sym, ap, subst, ◌∙◌, arith, append_assoc, Option, None}
+use Rattle.std.{proofs.lemmas.List.Elements.{All-cons, All-nil}, specs.Prelude.{codes, decimal, option_map}}
 use Rattle.std.specs.List.{join_with_byte}
-use Rattle.std.proofs.lemmas.List.Elements.{All-cons, All-nil}
 use Rattle.item_terms.specs.Items.{Item}
-use Rattle.dir_bytes.specs.Causes.{last_moment}
-use Rattle.dir_bytes.specs.FieldTexts.{address_text, base64_text, clock_text, date_text}
-use Rattle.dir_bytes.specs.Fields.{address, date, time_of_day}
-use Rattle.dir_bytes.proofs.ReadAgain.{address-address_text, date-date_text, number-decimal, time_of_day-clock_text}
-use Rattle.dir_values.specs.Arguments.{Argument, arguments_at}
-use Rattle.dir_values.specs.Digests.{digest2}
-use Rattle.dir_values.specs.Names.{is_nickname}
-use Rattle.dir_values.specs.Numbers.{port_of}
-use Rattle.dir_values.specs.declared.digest.Digest1.{Digest1}
-use Rattle.dir_values.specs.declared.digest.Digest2.{Digest2}
-use Rattle.dir_values.specs.declared.digest.Fingerprint.{Fingerprint}
+use Rattle.dir_bytes.specs.{Causes.last_moment, FieldTexts.{address_text, base64_text, clock_text, date_text}}
+use Rattle.dir_bytes.{specs.Fields.{address, date, time_of_day}, proofs.ReadAgain.address-address_text}
+use Rattle.dir_bytes.proofs.ReadAgain.{date-date_text, number-decimal, time_of_day-clock_text}
+use Rattle.dir_values.specs.{Arguments.{Argument, arguments_at}, Digests.digest2, Names.is_nickname, Numbers.port_of}
+use Rattle.dir_values.specs.declared.digest.{Digest1.Digest1, Digest2.Digest2, Fingerprint.Fingerprint}
 use Rattle.dirdoc_grammar.specs.Writing.{written}
 use Rattle.frame_terms.specs.declared.keyword.Keyword.{Keyword}
-use Rattle.frame_values.specs.Arguments.{arguments_of, field, next}
-use Rattle.frame_values.specs.Fields.{span_of}
-use Rattle.frame_values.specs.Items.{bare}
-use Rattle.frame_values.specs.Parts.{moment_of}
+use Rattle.frame_values.specs.{Arguments.{arguments_of, field, next}, Fields.span_of, Items.bare, Parts.moment_of}
 use Rattle.frame_values.specs.Values.{no_digest}
-use Rattle.frame_laws.proofs.WordTexts.{bytes_of}
-use Rattle.frame_laws.proofs.Words.{AreWords, IsWord, arguments_of_word, arguments_of_words, placed, two_words}
-use Rattle.frame_laws.proofs.Words.{word_of_address, word_of_clock, word_of_date, word_of_nickname, word_of_number}
-use Rattle.frame_laws.proofs.WrittenItems.{start_of}
-use Rattle.relay_entries.specs.Fields.{bandwidth_if, identity}
-use Rattle.relay_entries.specs.Lines.{no_bandwidths}
-use Rattle.relay_entries.specs.declared.said.Bandwidths.{Bandwidths}
-use Rattle.relay_entries.specs.declared.said.RelayLine.{RelayLine}
-use Rattle.group_laws.specs.EntryAgain.{relay_at}
-use Rattle.group_laws.specs.Ranges.{AreThirtyTwo, IsRelayInRange}
-use Rattle.group_laws.proofs.WrittenMicros.{digest_again, word_of_thirty_two}
-use Rattle.group_laws.proofs.WrittenRelays.{identity_again, port_again, relay_again, relay_shape, word_of_twenty}
-use Rattle.consensus_terms.specs.Lines.{named_text}
-use Rattle.consensus_terms.specs.Routers.{unmeasured_words}
-use Rattle.consensus_terms.specs.declared.flavour.Flavour.{Flavour}
-use Rattle.consensus_terms.specs.declared.flavour.Flavour.TheVariants.{Ns, Microdesc}
-use Rattle.consensus_terms.specs.declared.router.Bandwidth.{Bandwidth}
+use Rattle.frame_laws.proofs.{WordTexts.bytes_of, Words.{AreWords, IsWord, arguments_of_word, arguments_of_words}}
+use Rattle.frame_laws.proofs.Words.{placed, two_words, word_of_address, word_of_clock, word_of_date, word_of_nickname}
+use Rattle.frame_laws.proofs.{Words.word_of_number, WrittenItems.start_of}
+use Rattle.relay_entries.specs.{Fields.{bandwidth_if, identity}, Lines.no_bandwidths}
+use Rattle.relay_entries.specs.declared.said.{Bandwidths.Bandwidths, RelayLine.RelayLine}
+use Rattle.group_laws.specs.{EntryAgain.relay_at, Ranges.{AreThirtyTwo, IsRelayInRange}}
+use Rattle.group_laws.proofs.{WrittenMicros.{digest_again, word_of_thirty_two}, WrittenRelays.identity_again}
+use Rattle.group_laws.proofs.WrittenRelays.{port_again, relay_again, relay_shape, word_of_twenty}
+use Rattle.consensus_terms.specs.{Lines.named_text, Routers.unmeasured_words, declared.flavour.Flavour.Flavour}
+use Rattle.consensus_terms.specs.declared.{flavour.Flavour.TheVariants.{Ns, Microdesc}, router.Bandwidth.Bandwidth}
 use Rattle.consensus_terms.specs.declared.router.Routerline.{Routerline}
 use Rattle.consensus_frame.specs.Lines.{bandwidth_by, bandwidth_of, micro_digest_of, nothing_said, relay_of, with_word}
-use Rattle.consensus_frame.specs.Lines.{with_words}
-use Rattle.consensus_frame.specs.declared.line.Said.{Said}
-use Rattle.consensus_laws.specs.Again.{IsRouterInRange}
-use Rattle.consensus_laws.specs.Items.{router_words, w_text}
+use Rattle.consensus_frame.specs.{Lines.with_words, declared.line.Said.Said}
+use Rattle.consensus_laws.specs.{Again.IsRouterInRange, Items.{router_words, w_text}}
 
 -- ---- who a relay is and where
 

@@ -1,34 +1,20 @@
 -- What a consensus remembers of its relays, and that each may stand behind those before it.
 use Rattle.std.proofs.Common.{◌≡◌, ℕ, Bool, true, false, List, [], ◌∷◌, Option, Some, Result, Ok, Err, refl, ap}
-use Rattle.std.specs.Prelude.{All, map, if◌then◌else◌}
-use Rattle.std.proofs.lemmas.List.Elements.{All-cons, All-head, All-nil, All-tail}
-use Rattle.dir_values.specs.Digests.{identity_below}
-use Rattle.dir_values.specs.declared.digest.Fingerprint.{Fingerprint}
+use Rattle.std.{proofs.lemmas.List.Elements.{All-cons, All-head, All-nil, All-tail}, specs.Prelude.{All, map}}
+use Rattle.std.specs.Prelude.{if◌then◌else◌}
+use Rattle.dir_values.specs.{Digests.identity_below, declared.digest.Fingerprint.Fingerprint}
 use Rattle.dir_values.proofs.Orders.{AllPairs-head, AllPairs-tail}
-use Rattle.frame_terms.specs.declared.fault.FrameFault.{FrameFault}
-use Rattle.frame_terms.specs.declared.fault.FrameReason.TheVariants.{Unsorted}
-use Rattle.frame_laws.proofs.Entries.{taken_at}
-use Rattle.frame_laws.proofs.Passing.{notes_passing}
-use Rattle.frame_laws.proofs.Remembered.{Notes}
-use Rattle.frame_laws.proofs.SaidRows.{entries_of}
+use Rattle.frame_terms.specs.declared.fault.{FrameFault.FrameFault, FrameReason.TheVariants.Unsorted}
+use Rattle.frame_laws.proofs.{Entries.taken_at, Passing.notes_passing, Remembered.Notes, SaidRows.entries_of}
 use Rattle.frame_laws.proofs.Sections.{end_of, second_place, taken_in}
-use Rattle.relay_entries.specs.Listing.{fault_at, is_next, with_relay}
-use Rattle.relay_entries.specs.declared.listed.Listed.{Listed}
-use Rattle.consensus_terms.specs.Routers.{is_listed}
-use Rattle.consensus_terms.specs.declared.flavour.Flavour.{Flavour}
-use Rattle.consensus_terms.specs.declared.router.Routerline.{Routerline}
-use Rattle.consensus_frame.specs.Tables.{consensus_tables, with_listed}
-use Rattle.consensus_frame.specs.declared.across.Across.{Across}
+use Rattle.relay_entries.specs.{Listing.{fault_at, is_next, with_relay}, declared.listed.Listed.Listed}
+use Rattle.consensus_terms.specs.{Routers.is_listed, declared.{flavour.Flavour.Flavour, router.Routerline.Routerline}}
+use Rattle.consensus_frame.specs.{Tables.{consensus_tables, with_listed}, declared.across.Across.Across}
 use Rattle.consensus_frame.specs.declared.rows.ConsensusSection.{ConsensusSection}
 use Rattle.consensus_frame.specs.declared.rows.ConsensusSection.TheVariants as section
-use Rattle.consensus_laws.specs.Again.{Ascending, IsRouterInRange}
-use Rattle.consensus_laws.specs.Items.{listed}
-use Rattle.consensus_laws.proofs.AnyOrder.{AreNext}
-use Rattle.consensus_laws.proofs.ConsensusRows.{Follows}
-use Rattle.consensus_laws.proofs.Quiet.{forgotten, is_quiet}
-use Rattle.consensus_laws.proofs.RelayLines.{relay_said}
-use Rattle.consensus_laws.proofs.RouterRows.{router_entry, router_row, router_rows}
-use Rattle.consensus_laws.proofs.RouterRows.{router_section, suits_router}
+use Rattle.consensus_laws.{specs.{Again.{Ascending, IsRouterInRange}, Items.listed}, proofs.AnyOrder.AreNext}
+use Rattle.consensus_laws.proofs.{ConsensusRows.Follows, Quiet.{forgotten, is_quiet}, RelayLines.relay_said}
+use Rattle.consensus_laws.proofs.RouterRows.{router_entry, router_row, router_rows, router_section, suits_router}
 use Rattle.consensus_laws.proofs.RouterWhole.{router_next, router_quiet, router_whole}
 
 -- what is remembered after a relay

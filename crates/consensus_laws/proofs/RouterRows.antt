@@ -2,49 +2,30 @@
 use Rattle.std.proofs.Common.{◌≡◌, ℕ, ◌≤◌, true, false, List, [], ◌∷◌, Option, Some, None, Result, Ok, refl, ap}
 use Rattle.std.specs.Prelude.{IfSome, is_some}
 use Rattle.dir_bytes.specs.FieldTexts.{base64_text}
-use Rattle.dir_values.specs.FlagSets.{set_text}
-use Rattle.dir_values.specs.declared.digest.Digest2.{Digest2}
-use Rattle.frame_terms.specs.Rows.{row}
-use Rattle.frame_terms.specs.declared.keyword.Keyword.{Keyword}
-use Rattle.frame_terms.specs.declared.keyword.Keyword.TheVariants as the
-use Rattle.frame_terms.specs.declared.row.Count.TheVariants.{Many, One, Optional}
+use Rattle.dir_values.specs.{FlagSets.set_text, declared.digest.Digest2.Digest2}
+use Rattle.frame_terms.specs.{Rows.row, declared.{keyword.Keyword.Keyword, row.Count.TheVariants.{Many, One, Optional}}}
 use Rattle.frame_terms.specs.declared.row.Row.{Row}
-use Rattle.frame_values.specs.Arguments.{next}
-use Rattle.frame_values.specs.declared.found.Span.{Span}
-use Rattle.frame_values.specs.declared.values.Value.{Value}
+use Rattle.frame_terms.specs.declared.keyword.Keyword.TheVariants as the
+use Rattle.frame_values.specs.{Arguments.next, declared.{found.Span.Span, values.Value.Value}}
 use Rattle.frame_values.specs.declared.values.Value.TheVariants as value
-use Rattle.frame_laws.proofs.Both.{both_hold}
-use Rattle.frame_laws.proofs.RowCounts.{said_none, said_once}
-use Rattle.frame_laws.proofs.RowValues.{own_entry, row_if, said_if, text_entry}
-use Rattle.frame_laws.proofs.SaidRows.{AreSaid, row_none, row_once}
-use Rattle.frame_laws.proofs.WrittenItems.{start_of}
-use Rattle.relay_entries.specs.Lines.{lifted_entry_value}
+use Rattle.frame_laws.proofs.{Both.both_hold, RowCounts.{said_none, said_once}, RowValues.{own_entry, row_if, said_if}}
+use Rattle.frame_laws.proofs.{RowValues.text_entry, SaidRows.{AreSaid, row_none, row_once}, WrittenItems.start_of}
+use Rattle.relay_entries.specs.{Lines.lifted_entry_value, declared.said.{EntryValue.EntryValue, RelayLine.RelayLine}}
 use Rattle.relay_entries.specs.declared.said.EntryKind.TheVariants as entry
-use Rattle.relay_entries.specs.declared.said.EntryValue.{EntryValue}
 use Rattle.relay_entries.specs.declared.said.EntryValue.TheVariants as said
-use Rattle.relay_entries.specs.declared.said.RelayLine.{RelayLine}
-use Rattle.group_laws.specs.Ranges.{IsAddressInRange}
-use Rattle.group_laws.proofs.WrittenAddresses.{address_again}
-use Rattle.group_laws.specs.LineAgain.{AreFlagsInRange}
-use Rattle.group_laws.proofs.WrittenDelays.{flags_again}
-use Rattle.consensus_terms.specs.Routers.{is_listed}
-use Rattle.consensus_terms.specs.declared.flavour.Flavour.{Flavour}
-use Rattle.consensus_terms.specs.declared.flavour.Flavour.TheVariants.{Ns, Microdesc}
-use Rattle.consensus_terms.specs.declared.router.Bandwidth.{Bandwidth}
-use Rattle.consensus_terms.specs.declared.router.Routerline.{Routerline}
-use Rattle.consensus_frame.specs.Tables.{consensus_tables, m_row}
-use Rattle.consensus_frame.specs.declared.rows.ConsensusKind.{ConsensusKind}
+use Rattle.group_laws.specs.{Ranges.IsAddressInRange, LineAgain.AreFlagsInRange}
+use Rattle.group_laws.proofs.{WrittenAddresses.address_again, WrittenDelays.flags_again, SourceRows.said_rest_if}
+use Rattle.consensus_terms.specs.{Routers.is_listed, declared.flavour.Flavour.{Flavour, TheVariants.{Ns, Microdesc}}}
+use Rattle.consensus_terms.specs.declared.router.{Bandwidth.Bandwidth, Routerline.Routerline}
+use Rattle.consensus_frame.specs.{Tables.{consensus_tables, m_row}, declared.rows.ConsensusKind.ConsensusKind}
+use Rattle.consensus_frame.specs.declared.value.ConsensusValue.{ConsensusValue}
 use Rattle.consensus_frame.specs.declared.rows.ConsensusKind.TheVariants as kind
 use Rattle.consensus_frame.specs.declared.rows.ConsensusSection.TheVariants as section
-use Rattle.consensus_frame.specs.declared.value.ConsensusValue.{ConsensusValue}
 use Rattle.consensus_frame.specs.declared.value.ConsensusValue.TheVariants as own
-use Rattle.consensus_laws.specs.Again.{IsMicroInRange, IsRouterInRange}
-use Rattle.consensus_laws.specs.Items.{p_text, w_text}
+use Rattle.consensus_laws.specs.{Again.{IsMicroInRange, IsRouterInRange}, Items.{p_text, w_text}}
 use Rattle.consensus_laws.proofs.ConsensusItems.{ConsensusEntry, ConsensusPart, ConsensusRow, IsSaidHere}
-use Rattle.consensus_laws.proofs.ConsensusItems.{SuitsConsensus}
-use Rattle.consensus_laws.proofs.ConsensusItems.{has_rests, says, suits}
-use Rattle.group_laws.proofs.SourceRows.{said_rest_if}
-use Rattle.consensus_laws.proofs.RelayLines.{bandwidth_again, micro_digest_again, relay_said, router_again, router_text}
+use Rattle.consensus_laws.proofs.{ConsensusItems.{SuitsConsensus, has_rests, says, suits}, RelayLines.bandwidth_again}
+use Rattle.consensus_laws.proofs.RelayLines.{micro_digest_again, relay_said, router_again, router_text}
 
 -- ---- its items
 

@@ -1,30 +1,19 @@
 -- What is read of a relay of a consensus that was written says what its flavour has of it.
 use Rattle.std.proofs.Common.{◌≡◌, ℕ, ◌+◌, List, [], ◌∷◌, Option, Some, None, refl, sym, ap, ◌∙◌, arith}
-use Rattle.std.specs.Prelude.{decimal}
-use Rattle.std.specs.List.{join_with_byte}
+use Rattle.std.specs.{Prelude.decimal, List.join_with_byte}
 use Rattle.dir_bytes.specs.FieldTexts.{address_text, base64_text, moment_text}
 use Rattle.dir_values.specs.declared.digest.Digest2.{Digest2}
 use Rattle.frame_terms.specs.declared.document.Taken.{Taken}
 use Rattle.frame_terms.specs.declared.keyword.Keyword.TheVariants as the
-use Rattle.frame_values.specs.Fields.{span}
-use Rattle.frame_values.specs.Parts.{moment_of, part}
-use Rattle.frame_values.specs.Values.{item_at}
-use Rattle.frame_values.specs.declared.values.Value.{Value}
-use Rattle.frame_laws.proofs.ReadRows.{AreRead, IsRead, item_of_row}
-use Rattle.frame_laws.proofs.RowValues.{text_if_said}
-use Rattle.frame_laws.proofs.Sections.{rows_in}
+use Rattle.frame_values.specs.{Fields.span, Parts.{moment_of, part}, Values.item_at, declared.values.Value.Value}
+use Rattle.frame_laws.proofs.{ReadRows.{AreRead, IsRead, item_of_row}, RowValues.text_if_said, Sections.rows_in}
 use Rattle.frame_laws.proofs.StandingParts.{once, part_of_part, rest_part}
-use Rattle.consensus_terms.specs.declared.flavour.Flavour.{Flavour}
-use Rattle.consensus_terms.specs.declared.flavour.Flavour.TheVariants.{Ns, Microdesc}
-use Rattle.consensus_terms.specs.declared.router.Bandwidth.{Bandwidth}
-use Rattle.consensus_terms.specs.declared.router.Routerline.{Routerline}
+use Rattle.consensus_terms.specs.declared.flavour.Flavour.{Flavour, TheVariants.{Ns, Microdesc}}
+use Rattle.consensus_terms.specs.declared.router.{Bandwidth.Bandwidth, Routerline.Routerline}
 use Rattle.consensus_frame.specs.declared.value.ConsensusValue.{ConsensusValue}
-use Rattle.consensus_doc.specs.Drafts.{router_of, summary_of}
-use Rattle.consensus_doc.specs.Saying.{bandwidth_in, micro_digest_in, relay_in}
-use Rattle.consensus_laws.specs.Again.{IsRouterInRange, router_as_read}
-use Rattle.consensus_laws.specs.Items.{p_text}
-use Rattle.consensus_laws.proofs.ConsensusSays.{ConsensusTaken, flags_said}
-use Rattle.consensus_laws.proofs.RelayLines.{digest_said, router_text}
+use Rattle.consensus_doc.specs.{Drafts.{router_of, summary_of}, Saying.{bandwidth_in, micro_digest_in, relay_in}}
+use Rattle.consensus_laws.specs.{Again.{IsRouterInRange, router_as_read}, Items.p_text}
+use Rattle.consensus_laws.proofs.{ConsensusSays.{ConsensusTaken, flags_said}, RelayLines.{digest_said, router_text}}
 use Rattle.consensus_laws.proofs.RouterRows.{m_said, rest_row, router_section, w_said}
 
 -- its nickname stands in front of its line

@@ -1,45 +1,28 @@
 -- A relay of a consensus is written whole: its rows are those of its table, in another order. What is remembered of it,
 -- and what may follow what.
-use Rattle.std.proofs.Common.{◌≡◌, Bool, true, false, List, [], ◌∷◌, Option, Some, None, refl}
-use Rattle.std.specs.Prelude.{not, if◌then◌else◌}
+use Rattle.std.{proofs.Common.{◌≡◌, Bool, true, false, List, [], ◌∷◌, Option, Some, None, refl}, specs.Prelude.not}
+use Rattle.std.specs.Prelude.{if◌then◌else◌}
 use Rattle.dir_values.specs.declared.digest.Digest2.{Digest2}
-use Rattle.frame_terms.specs.Keywords.{same}
-use Rattle.frame_terms.specs.Rows.{row}
-use Rattle.frame_terms.specs.Sections.{keyword_if, lacking_keyword, stands}
-use Rattle.frame_terms.specs.declared.document.Taken.{Taken}
+use Rattle.frame_terms.specs.{Keywords.same, Rows.row, Sections.{keyword_if, lacking_keyword, stands}}
+use Rattle.frame_terms.specs.declared.{document.Taken.Taken, row.{Count.TheVariants.{One, Optional}, Row.Row}}
 use Rattle.frame_terms.specs.declared.keyword.Keyword.TheVariants as the
-use Rattle.frame_terms.specs.declared.row.Count.TheVariants.{One, Optional}
-use Rattle.frame_terms.specs.declared.row.Row.{Row}
 use Rattle.frame_values.specs.declared.values.Value.{Value}
-use Rattle.frame_laws.proofs.Both.{both_hold}
-use Rattle.frame_laws.proofs.Following.{opener_follows, repeated_follows}
-use Rattle.frame_laws.proofs.MoreRows.{AreInTable}
-use Rattle.frame_laws.proofs.ReadRows.{each_taken, none_lacks}
-use Rattle.frame_laws.proofs.TableRows.{middle_in_table}
-use Rattle.frame_laws.proofs.Passing.{EachPasses}
-use Rattle.frame_laws.proofs.RowCounts.{counted_once}
-use Rattle.frame_laws.proofs.RowValues.{row_if}
-use Rattle.frame_laws.proofs.SaidRows.{are_apart, counted, entries_of, row_none, rows_of}
-use Rattle.frame_laws.proofs.Sections.{rows_in, taken_in}
+use Rattle.frame_laws.proofs.{Both.both_hold, Following.{opener_follows, repeated_follows}, MoreRows.AreInTable}
+use Rattle.frame_laws.proofs.{ReadRows.{each_taken, none_lacks}, TableRows.middle_in_table, Passing.EachPasses}
+use Rattle.frame_laws.proofs.{RowCounts.counted_once, RowValues.row_if, SaidRows.{are_apart, counted, entries_of}}
+use Rattle.frame_laws.proofs.{SaidRows.{row_none, rows_of}, Sections.{rows_in, taken_in}}
 use Rattle.relay_entries.specs.declared.said.EntryKind.TheVariants as entry
-use Rattle.consensus_terms.specs.Routers.{is_listed}
-use Rattle.consensus_terms.specs.declared.flavour.Flavour.{Flavour}
-use Rattle.consensus_terms.specs.declared.flavour.Flavour.TheVariants.{Ns, Microdesc}
-use Rattle.consensus_terms.specs.declared.router.Bandwidth.{Bandwidth}
-use Rattle.consensus_terms.specs.declared.router.Routerline.{Routerline}
-use Rattle.consensus_frame.specs.Tables.{consensus_tables, rows}
-use Rattle.consensus_frame.specs.declared.rows.ConsensusKind.{ConsensusKind}
+use Rattle.consensus_terms.specs.{Routers.is_listed, declared.flavour.Flavour.{Flavour, TheVariants.{Ns, Microdesc}}}
+use Rattle.consensus_terms.specs.declared.router.{Bandwidth.Bandwidth, Routerline.Routerline}
+use Rattle.consensus_frame.specs.{Tables.{consensus_tables, rows}, declared.rows.ConsensusKind.ConsensusKind}
+use Rattle.consensus_frame.specs.declared.value.ConsensusValue.{ConsensusValue}
 use Rattle.consensus_frame.specs.declared.rows.ConsensusKind.TheVariants as kind
 use Rattle.consensus_frame.specs.declared.rows.ConsensusSection.TheVariants as section
-use Rattle.consensus_frame.specs.declared.value.ConsensusValue.{ConsensusValue}
-use Rattle.consensus_laws.specs.Again.{IsRouterInRange}
-use Rattle.consensus_laws.specs.Items.{p_text}
-use Rattle.consensus_laws.proofs.AnyOrder.{IsWhole}
-use Rattle.consensus_laws.proofs.ConsensusItems.{ConsensusRow}
-use Rattle.consensus_laws.proofs.ConsensusRows.{Follows, footer_row}
-use Rattle.consensus_laws.proofs.Quiet.{is_quiet, rows_quiet, text_quiet}
-use Rattle.consensus_laws.proofs.RouterRows.{a_row, flags_row, m_entries, m_said, rest_row, router_entry, router_row}
-use Rattle.consensus_laws.proofs.RouterRows.{router_rows, router_said, router_section, w_entries, w_said}
+use Rattle.consensus_laws.{specs.{Again.IsRouterInRange, Items.p_text}, proofs.AnyOrder.IsWhole}
+use Rattle.consensus_laws.proofs.{ConsensusItems.ConsensusRow, ConsensusRows.{Follows, footer_row}, Quiet.is_quiet}
+use Rattle.consensus_laws.proofs.{Quiet.{rows_quiet, text_quiet}, RouterRows.{a_row, flags_row, m_entries, m_said}}
+use Rattle.consensus_laws.proofs.RouterRows.{rest_row, router_entry, router_row, router_rows, router_said}
+use Rattle.consensus_laws.proofs.RouterRows.{router_section, w_entries, w_said}
 
 -- ---- that they are rows of the table
 

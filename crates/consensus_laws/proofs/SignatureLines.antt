@@ -1,23 +1,18 @@
 -- A signature of a consensus that was written is read again; one of an unknown algorithm says nothing.
 use Rattle.std.proofs.Common.{◌≡◌, ℕ, ◌<◌, Bool, true, false, List, [], ◌∷◌, ◌++◌, length, Option, Some, None, Ok, refl}
-use Rattle.std.proofs.Common.{sym, subst, ◌∙◌, append_assoc}
-use Rattle.std.specs.Prelude.{IfSome, codes, if◌then◌else◌}
+use Rattle.std.{proofs.Common.{sym, subst, ◌∙◌, append_assoc}, specs.Prelude.{IfSome, codes, if◌then◌else◌}}
 use Rattle.std.specs.Str.{bytes_eq}
 use Rattle.item_terms.specs.Items.{Item}
 use Rattle.dir_bytes.specs.FieldTexts.{hex_text}
 use Rattle.dir_values.specs.Digests.{fingerprint}
-use Rattle.dirdoc_grammar.specs.Writers.{is_argument}
-use Rattle.dirdoc_grammar.specs.Writing.{written}
+use Rattle.dirdoc_grammar.specs.{Writers.is_argument, Writing.written}
 use Rattle.frame_terms.specs.declared.keyword.Keyword.{Keyword}
-use Rattle.frame_values.specs.Items.{with_object}
-use Rattle.frame_values.specs.Signatures.{is_space, known_signature_of}
+use Rattle.frame_values.specs.{Items.with_object, Signatures.{is_space, known_signature_of}}
 use Rattle.frame_values.specs.declared.found.VoteSignature.{VoteSignature}
-use Rattle.group_laws.specs.Again.{IsSignerInRange}
-use Rattle.group_laws.specs.Again as lines
-use Rattle.group_laws.proofs.SignatureLines.{known_again, space_again}
+use Rattle.group_laws.{specs.Again.IsSignerInRange, proofs.SignatureLines.{known_again, space_again}}
 use Rattle.group_laws.proofs.WrittenSignatures.{signer_some}
-use Rattle.consensus_terms.specs.Signed.{algorithm_text, signer_text}
-use Rattle.consensus_terms.specs.declared.signature.SignatureLine.{SignatureLine}
+use Rattle.group_laws.specs.Again as lines
+use Rattle.consensus_terms.specs.{Signed.{algorithm_text, signer_text}, declared.signature.SignatureLine.SignatureLine}
 use Rattle.consensus_frame.specs.Tables.{signature_of}
 use Rattle.consensus_laws.specs.Again.{IsSignatureInRange}
 

@@ -1,11 +1,8 @@
 -- Signatures in their order are those that they were.
-use Rattle.std.proofs.Common.{Bool, true, false, List, [], ◌∷◌}
-use Rattle.std.specs.Prelude.{All, if◌then◌else◌}
-use Rattle.std.specs.List.{fold}
-use Rattle.std.proofs.lemmas.List.Elements.{All-cons, All-head, All-nil, All-tail}
+use Rattle.std.proofs.{Common.{Bool, true, false, List, [], ◌∷◌}, lemmas.List.Elements.{All-cons, All-head, All-nil}}
+use Rattle.std.{proofs.lemmas.List.Elements.All-tail, specs.{Prelude.{All, if◌then◌else◌}, List.fold}}
 use Rattle.dir_values.specs.Digests.{identity_below}
-use Rattle.consensus_terms.specs.Signed.{in_order, with_line}
-use Rattle.consensus_terms.specs.declared.signature.SignatureLine.{SignatureLine}
+use Rattle.consensus_terms.specs.{Signed.{in_order, with_line}, declared.signature.SignatureLine.SignatureLine}
 
 module _ (P : SignatureLine → Type 0) where
   -- one more, wherever it is put

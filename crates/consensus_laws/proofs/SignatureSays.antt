@@ -1,39 +1,25 @@
 -- What is read of the footer of a consensus that was written: its signatures, and where the signed part ends.
 use Rattle.std.proofs.Common.{◌≡◌, ℕ, ◌+◌, ◌≤◌, ◌^◌, ◌-◌, Bool, true, false, List, [], ◌∷◌, ◌++◌, length, Option, Some}
-use Rattle.std.proofs.Common.{None, refl, sym, ap, subst, ◌∙◌, arith, append-nil}
-use Rattle.std.specs.Prelude.{◌||◌, codes, map, min, option_map, if◌then◌else◌}
-use Rattle.std.specs.Str.{bytes_eq}
-use Rattle.std.proofs.lemmas.Grind.{flat_map-append}
-use Rattle.dir_values.proofs.Orders.{same_text}
-use Rattle.dir_values.specs.Names.{algorithm}
-use Rattle.dir_values.specs.declared.algorithm.Algorithm.{Algorithm}
+use Rattle.std.proofs.{Common.{None, refl, sym, ap, subst, ◌∙◌, arith, append-nil}, lemmas.Grind.flat_map-append}
+use Rattle.std.specs.{Prelude.{◌||◌, codes, map, min, option_map, if◌then◌else◌}, Str.bytes_eq}
+use Rattle.dir_values.{proofs.Orders.same_text, specs.{Names.algorithm, declared.algorithm.Algorithm.Algorithm}}
 use Rattle.dir_values.specs.declared.algorithm.Algorithm.TheVariants.{Sha256}
-use Rattle.dirdoc_grammar.specs.Bodies.{body_text}
-use Rattle.dirdoc_grammar.specs.Writing.{item_text}
+use Rattle.dirdoc_grammar.specs.{Bodies.body_text, Writing.item_text}
 use Rattle.frame_terms.specs.declared.document.Taken.{Taken}
 use Rattle.frame_terms.specs.declared.keyword.Keyword.TheVariants as the
-use Rattle.frame_values.specs.Fields.{span}
-use Rattle.frame_values.specs.Parts.{bytes_in}
-use Rattle.frame_values.specs.Values.{item_at}
-use Rattle.frame_values.specs.declared.found.VoteSignature.{VoteSignature}
+use Rattle.frame_values.specs.{Fields.span, Parts.bytes_in, Values.item_at, declared.found.VoteSignature.VoteSignature}
 use Rattle.frame_values.specs.declared.values.Value.{Value}
 use Rattle.frame_values.specs.declared.values.Value.TheVariants as value
-use Rattle.frame_laws.proofs.Entries.{after_one, all_taken, item_of}
-use Rattle.frame_laws.proofs.ManyRows.{row_of_each}
-use Rattle.frame_laws.proofs.Places.{after_all, all_taken-append}
-use Rattle.frame_laws.proofs.ReadRows.{IsRead, Stand, item_of_row}
-use Rattle.frame_laws.proofs.RowValues.{text_entry_if}
-use Rattle.frame_laws.proofs.StandingParts.{spelled}
-use Rattle.frame_laws.proofs.WrittenItems.{lines_at}
+use Rattle.frame_laws.proofs.{Entries.{after_one, all_taken, item_of}, ManyRows.row_of_each, Places.after_all}
+use Rattle.frame_laws.proofs.{Places.all_taken-append, ReadRows.{IsRead, Stand, item_of_row}, RowValues.text_entry_if}
+use Rattle.frame_laws.proofs.{StandingParts.spelled, WrittenItems.lines_at}
 use Rattle.group_laws.specs.Again as group
 use Rattle.consensus_terms.specs.declared.signature.SignatureLine.{SignatureLine}
 use Rattle.consensus_frame.specs.declared.value.ConsensusValue.{ConsensusValue}
 use Rattle.consensus_frame.specs.declared.value.ConsensusValue.TheVariants as own
 use Rattle.consensus_doc.specs.Drafts.{all_signatures, signatures_in, signed_end}
-use Rattle.consensus_laws.specs.Again.{known_signatures}
-use Rattle.consensus_laws.proofs.ConsensusItems.{ConsensusEntry}
-use Rattle.consensus_laws.proofs.ConsensusRows.{signature_entry, signature_row}
-use Rattle.consensus_laws.proofs.ConsensusSays.{ConsensusTaken}
+use Rattle.consensus_laws.{specs.Again.known_signatures, proofs.ConsensusItems.ConsensusEntry}
+use Rattle.consensus_laws.proofs.{ConsensusRows.{signature_entry, signature_row}, ConsensusSays.ConsensusTaken}
 use Rattle.consensus_laws.proofs.SignatureLines.{name_if, signature_said, signer_same}
 
 -- ---- signatures

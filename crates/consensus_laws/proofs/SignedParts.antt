@@ -1,26 +1,19 @@
 -- The signed part of a text with signatures, and the text of a consensus that was computed.
 use Rattle.std.proofs.Common.{◌≡◌, ℕ, ◌<◌, List, [], ◌∷◌, ◌++◌, length, take, Some, Ok, refl, sym, ap, ◌∙◌}
-use Rattle.std.proofs.Common.{append_assoc, arith}
-use Rattle.std.specs.Prelude.{codes}
-use Rattle.std.specs.List.{join_with_byte}
-use Rattle.std.proofs.lemmas.List.{take_at}
+use Rattle.std.{proofs.{Common.{append_assoc, arith}, lemmas.List.take_at}, specs.{Prelude.codes, List.join_with_byte}}
 use Rattle.dirdoc_grammar.specs.Bodies.{object_text}
 use Rattle.frame_terms.specs.declared.keyword.Keyword.TheVariants as the
 use Rattle.bw_weights.specs.declared.position_weights.Weights.{Weights}
-use Rattle.consensus_terms.specs.Flavours.{facts_in}
-use Rattle.consensus_terms.specs.Lines.{line, named_text}
-use Rattle.consensus_terms.specs.Signed.{signature_text, signature_texts, signed, signed_part, signer_text}
-use Rattle.consensus_terms.specs.Texts.{body, facts_text, footer, footer_as_read, unsigned}
-use Rattle.consensus_terms.specs.Weights.{weight_words}
-use Rattle.consensus_terms.specs.declared.consensus.Consensus.{Consensus}
-use Rattle.consensus_terms.specs.declared.flavour.Flavour.{Flavour}
+use Rattle.consensus_terms.specs.{Flavours.facts_in, Lines.{line, named_text}, Signed.{signature_text, signature_texts}}
+use Rattle.consensus_terms.specs.{Signed.{signed, signed_part, signer_text}, Texts.{body, facts_text, footer}}
+use Rattle.consensus_terms.specs.{Texts.{footer_as_read, unsigned}, Weights.weight_words}
+use Rattle.consensus_terms.specs.declared.{consensus.Consensus.Consensus, flavour.Flavour.Flavour}
 use Rattle.consensus_terms.specs.declared.signature.SignatureLine.{SignatureLine}
 use Rattle.consensus_doc.specs.Reading.{consensus_of}
 use Rattle.consensus_laws.specs.Again.{ComputedConsensusesAreReadAgain, SignedPartsStand, as_read, with_signatures}
-use Rattle.group_laws.proofs.WrittenSignatures.{signed_end_first}
-use Rattle.consensus_laws.proofs.ConsensusAgain.{consensuses_again}
-use Rattle.consensus_laws.proofs.LineTexts.{lines_are, rest_is}
+use Rattle.consensus_laws.proofs.{ConsensusAgain.consensuses_again, LineTexts.{lines_are, rest_is}}
 use Rattle.consensus_laws.proofs.SignatureLines.{signer_filled}
+use Rattle.group_laws.proofs.WrittenSignatures.{signed_end_first}
 
 -- ---- the signed part
 

@@ -1,29 +1,19 @@
 -- The object of each item is base64, and so spells bytes.
 use Rattle.std.proofs.Common.{◌≡◌, ℕ, ◌+◌, Bool, true, false, List, [], ◌∷◌, length, take, drop, Option, Some, None}
-use Rattle.std.proofs.Common.{Result, Ok, Err, refl, sym, subst}
-use Rattle.std.specs.Prelude.{IfSome, is_ok, nat_lt, unwrap_or, if◌then◌else◌}
-use Rattle.std.specs.Result.{result_ok}
-use Rattle.std.proofs.lemmas.Bool.{and_parts}
-use Rattle.base64.specs.Engines.{standard}
-use Rattle.base64.specs.GeneralPurpose.{decode_of}
-use Rattle.item_terms.specs.Base64Text.{is_base64, is_body, joined_text, lines_fit}
-use Rattle.item_terms.specs.declared.fault.DocFault.{DocFault}
-use Rattle.item_terms.specs.declared.fault.DocReason.TheVariants.{Keyword, ObjectBase64, ObjectEnd}
-use Rattle.item_terms.specs.Faults.{at, line_fault, max_object, object_line_fault}
-use Rattle.item_terms.specs.Items.{Contents, Item, Object, Open, Step, also, contents_of, items_from, keyword_line, nothing, object_lines}
-use Rattle.item_terms.specs.Items.{proceed, step}
-use Rattle.item_terms.specs.Lines.{Line, lines, size}
-use Rattle.item_terms.specs.Steps.{first_object_line, item_unless, keyword_item, object_step, open_item, open_unless, read_line}
-use Rattle.item_terms.specs.Steps.{starts_dash, step_unless, with_line, with_object}
-use Rattle.item_terms.specs.Words.{begin_words, is_blank_line, is_end_line, is_keyword_line}
-use Rattle.dirdoc_grammar.specs.Bodies.{decoded_bytes}
-use Rattle.dirdoc_grammar.specs.InPlace.{EachInPlace}
-use Rattle.dirdoc_grammar.proofs.Places.{stand_in_place}
+use Rattle.std.{proofs.{Common.{Result, Ok, Err, refl, sym, subst}, lemmas.Bool.and_parts}, specs.Prelude.IfSome}
+use Rattle.std.specs.{Prelude.{is_ok, nat_lt, unwrap_or, if◌then◌else◌}, Result.result_ok}
+use Rattle.base64.specs.{Engines.standard, GeneralPurpose.decode_of}
+use Rattle.item_terms.specs.{Base64Text.{is_base64, is_body, joined_text, lines_fit}, declared.fault.DocFault.DocFault}
+use Rattle.item_terms.specs.{declared.fault.DocReason.TheVariants.{Keyword, ObjectBase64, ObjectEnd}, Faults.at}
+use Rattle.item_terms.specs.{Faults.{line_fault, max_object, object_line_fault}, Items.{Contents, Item, Object, Open}}
+use Rattle.item_terms.specs.Items.{Step, also, contents_of, items_from, keyword_line, nothing, object_lines, proceed}
+use Rattle.item_terms.specs.{Items.step, Lines.{Line, lines, size}, Steps.{first_object_line, item_unless}}
+use Rattle.item_terms.specs.Steps.{keyword_item, object_step, open_item, open_unless, read_line, starts_dash}
+use Rattle.item_terms.specs.{Steps.{step_unless, with_line, with_object}, Words.{begin_words, is_blank_line}}
+use Rattle.item_terms.specs.Words.{is_end_line, is_keyword_line}
+use Rattle.dirdoc_grammar.{specs.{Bodies.decoded_bytes, InPlace.EachInPlace}, proofs.Places.stand_in_place}
 use Rattle.frame_laws.proofs.StandingParts.{at_span}
-use Rattle.frame_values.specs.Fields.{span}
-use Rattle.frame_values.specs.Parts.{bytes_in, part}
-use Rattle.frame_values.specs.Signatures.{object_if}
-use Rattle.frame_values.specs.declared.found.Span.{Span}
+use Rattle.frame_values.specs.{Fields.span, Parts.{bytes_in, part}, Signatures.object_if, declared.found.Span.Span}
 use Rattle.consensus_laws.specs.Spelling.{EachSpellsBytes, ObjectsSpellBytes}
 
 -- ---- each object is base64

@@ -1,20 +1,13 @@
 -- The authorities of a consensus may follow one another: nothing is remembered of them.
-use Rattle.std.proofs.Common.{ℕ, List, [], ◌∷◌, refl}
-use Rattle.std.specs.Prelude.{All, map}
-use Rattle.std.proofs.lemmas.List.Elements.{All-head, All-tail}
-use Rattle.frame_laws.proofs.Following.{AreNext}
-use Rattle.frame_laws.proofs.Passing.{notes_passing}
-use Rattle.frame_laws.proofs.Sections.{end_of, entries_in}
-use Rattle.consensus_terms.specs.declared.consensus.SourceLine.{SourceLine}
-use Rattle.consensus_terms.specs.declared.flavour.Flavour.{Flavour}
-use Rattle.consensus_frame.specs.Tables.{consensus_tables}
-use Rattle.consensus_frame.specs.declared.across.Across.{Across}
+use Rattle.std.{proofs.{Common.{ℕ, List, [], ◌∷◌, refl}, lemmas.List.Elements.{All-head, All-tail}}, specs.Prelude.All}
+use Rattle.std.specs.Prelude.{map}
+use Rattle.frame_laws.proofs.{Following.AreNext, Passing.notes_passing, Sections.{end_of, entries_in}}
+use Rattle.consensus_terms.specs.declared.{consensus.SourceLine.SourceLine, flavour.Flavour.Flavour}
+use Rattle.consensus_frame.specs.{Tables.consensus_tables, declared.across.Across.Across}
 use Rattle.consensus_frame.specs.declared.rows.ConsensusSection.{ConsensusSection}
 use Rattle.consensus_frame.specs.declared.rows.ConsensusSection.TheVariants as section
-use Rattle.consensus_laws.specs.Again.{IsAuthorityInRange}
-use Rattle.consensus_laws.proofs.ConsensusItems.{suits_source}
-use Rattle.consensus_laws.proofs.ConsensusRows.{Follows, source_next, source_quiet, source_row, source_section}
-use Rattle.consensus_laws.proofs.ConsensusRows.{source_written}
+use Rattle.consensus_laws.{specs.Again.IsAuthorityInRange, proofs.{ConsensusItems.suits_source, ConsensusRows.Follows}}
+use Rattle.consensus_laws.proofs.ConsensusRows.{source_next, source_quiet, source_row, source_section, source_written}
 use Rattle.consensus_laws.proofs.Quiet.{forgotten, is_quiet}
 
 pub sources_next : (flavour : Flavour) (across : Across) (before : ConsensusSection) (place : ℕ)

@@ -3,34 +3,19 @@ use Rattle.std.proofs.Common.{◌≡◌, ℕ, true, List, length, Option, Some, 
 use Rattle.std.specs.Prelude.{IfSome}
 use Rattle.item_terms.specs.Items.{Item, items_of}
 use Rattle.dir_values.specs.declared.digest.Digest1.{Digest1}
-use Rattle.frame_terms.specs.declared.document.Group.{Group}
-use Rattle.frame_terms.specs.declared.document.Taken.{Taken}
-use Rattle.frame_terms.specs.declared.keyword.Keyword.TheVariants.{ConsensusDigest}
-use Rattle.frame_terms.specs.declared.row.Count.TheVariants.{One}
-use Rattle.frame_terms.specs.declared.row.Row.{Row}
-use Rattle.frame_terms.specs.Keywords.{same}
-use Rattle.frame_terms.specs.Rows.{row}
-use Rattle.frame_terms.specs.Sections.{row_of}
-use Rattle.frame_values.specs.Arguments.{next}
-use Rattle.frame_values.specs.Faults.{at_place}
-use Rattle.frame_values.specs.Values.{item_at, own_in, own_of_value}
+use Rattle.frame_terms.specs.declared.{document.{Group.Group, Taken.Taken}, keyword.Keyword.TheVariants.ConsensusDigest}
+use Rattle.frame_terms.specs.{declared.row.{Count.TheVariants.One, Row.Row}, Keywords.same, Rows.row, Sections.row_of}
+use Rattle.frame_values.specs.{Arguments.next, Faults.at_place, Values.{item_at, own_in, own_of_value}}
 use Rattle.frame_values.specs.declared.values.Value.{Value}
 use Rattle.frame_values.specs.declared.values.Value.TheVariants as value
-use Rattle.detached_frame.specs.Lines.{digest_of}
-use Rattle.detached_frame.specs.Tables.{detached_tables}
-use Rattle.detached_frame.specs.declared.said.DetachedKind.{DetachedKind}
-use Rattle.detached_frame.specs.declared.said.DetachedKind.TheVariants as kind
+use Rattle.detached_frame.specs.{Lines.digest_of, Tables.detached_tables, declared.said.DetachedKind.DetachedKind}
 use Rattle.detached_frame.specs.declared.said.DetachedValue.{DetachedValue}
+use Rattle.detached_frame.specs.declared.said.DetachedKind.TheVariants as kind
 use Rattle.detached_frame.specs.declared.said.DetachedValue.TheVariants as own
-use Rattle.detached_doc.specs.Reading.{max_detached}
-use Rattle.detached_doc.specs.Saying.{digest_of_value}
-use Rattle.document_laws.specs.Counts.{RowsStand}
-use Rattle.document_laws.specs.Items.{AreItemsIn}
-use Rattle.document_laws.proofs.Counting.{stand_as_often}
-use Rattle.document_laws.proofs.Taking.{are_said}
-use Rattle.row_laws.proofs.KindRanges.{once_there}
-use Rattle.row_laws.proofs.ReadSteps.{placed}
-use Rattle.row_laws.proofs.Saying.{Says, Stands, all_sound, each_stands, found, of_row}
+use Rattle.detached_doc.specs.{Reading.max_detached, Saying.digest_of_value}
+use Rattle.document_laws.{specs.{Counts.RowsStand, Items.AreItemsIn}, proofs.{Counting.stand_as_often, Taking.are_said}}
+use Rattle.row_laws.proofs.{KindRanges.once_there, ReadSteps.placed, Saying.{Says, Stands, all_sound, each_stands}}
+use Rattle.row_laws.proofs.Saying.{found, of_row}
 use Rattle.consensus_laws.specs.SaidDigests.{DigestsAreSaid, SaysDigest}
 
 abbrev own_row : Row DetachedKind

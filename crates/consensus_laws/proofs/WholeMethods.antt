@@ -1,6 +1,5 @@
 -- A consensus method that is read is below 2 ^ 32.
-use Rattle.std.proofs.Common.{◌≡◌, ℕ, ◌≤◌, Ok, arith}
-use Rattle.std.specs.Prelude.{min}
+use Rattle.std.{proofs.Common.{◌≡◌, ℕ, ◌≤◌, Ok, arith}, specs.Prelude.min}
 use Rattle.item_terms.specs.Items.{Item}
 use Rattle.dir_values.specs.Numbers.{number_of}
 use Rattle.frame_values.specs.Arguments.{arguments_of, field, front}

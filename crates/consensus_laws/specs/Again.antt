@@ -1,35 +1,21 @@
 -- A consensus that was written is read again (dir-spec, "Vote and consensus status document formats").
 use Rattle.std.specs.Prelude.{◌≡◌, ℕ, ◌<◌, ◌≤◌, ◌^◌, ◌||◌, Bool, true, List, [], ◌∷◌, length, All, IfSome, Option, Some}
-use Rattle.std.specs.Prelude.{None}
-use Rattle.std.specs.Prelude.{AllPairs, Ok, codes, map, take}
-use Rattle.std.specs.List.{filter, join_with_byte}
-use Rattle.std.specs.Str.{bytes_eq}
+use Rattle.std.specs.{Prelude.{None, AllPairs, Ok, codes, map, take}, List.{filter, join_with_byte}, Str.bytes_eq}
 use Rattle.item_terms.specs.Bytes.{space}
 use Rattle.dir_bytes.specs.Causes.{last_moment}
-use Rattle.dir_values.specs.Digests.{fingerprint, identity_below}
-use Rattle.dir_values.specs.Names.{is_nickname}
-use Rattle.dir_values.specs.declared.digest.Digest1.{Digest1}
+use Rattle.dir_values.specs.{Digests.{fingerprint, identity_below}, Names.is_nickname, declared.digest.Digest1.Digest1}
 use Rattle.dir_values.specs.declared.digest.Digest2.{Digest2}
-use Rattle.dirdoc_grammar.specs.Writers.{is_argument}
-use Rattle.dirdoc_grammar.specs.Writing.{AreWritable}
-use Rattle.frame_values.specs.Ranges.{AreTwenty}
-use Rattle.frame_values.specs.Values.{no_digest}
+use Rattle.dirdoc_grammar.specs.{Writers.is_argument, Writing.AreWritable}
+use Rattle.frame_values.specs.{Ranges.AreTwenty, Values.no_digest}
 use Rattle.value_laws.specs.Ranges.{AreParamsInRange, AreProtocolsInRange, AreVersionsInRange}
-use Rattle.group_laws.specs.LineAgain.{AreFlagsInRange, IsRandomInRange, IsSourceInRange}
-use Rattle.group_laws.specs.Ranges.{AreThirtyTwo, IsAddressInRange}
-use Rattle.consensus_terms.specs.Flavours.{facts_in}
-use Rattle.consensus_terms.specs.Signed.{in_order, signed, signed_part}
-use Rattle.consensus_terms.specs.Texts.{facts_text, unsigned}
-use Rattle.consensus_terms.specs.Weights.{weight_words}
-use Rattle.consensus_terms.specs.declared.consensus.Consensus.{Consensus}
-use Rattle.consensus_terms.specs.declared.consensus.ConsensusFacts.{ConsensusFacts}
-use Rattle.consensus_terms.specs.declared.consensus.ConsensusLists.{ConsensusLists}
-use Rattle.consensus_terms.specs.declared.consensus.SignedConsensus.{SignedConsensus}
-use Rattle.consensus_terms.specs.declared.consensus.SourceLine.{SourceLine}
-use Rattle.consensus_terms.specs.declared.flavour.Flavour.{Flavour}
-use Rattle.consensus_terms.specs.declared.flavour.Flavour.TheVariants.{Ns, Microdesc}
-use Rattle.consensus_terms.specs.declared.router.Bandwidth.{Bandwidth}
-use Rattle.consensus_terms.specs.declared.router.Routerline.{Routerline}
+use Rattle.group_laws.specs.{LineAgain.{AreFlagsInRange, IsRandomInRange, IsSourceInRange}, Ranges.AreThirtyTwo}
+use Rattle.group_laws.specs.Ranges.{IsAddressInRange}
+use Rattle.consensus_terms.specs.{Flavours.facts_in, Signed.{in_order, signed, signed_part}, Texts.facts_text}
+use Rattle.consensus_terms.specs.{Texts.unsigned, Weights.weight_words, declared.consensus.Consensus.Consensus}
+use Rattle.consensus_terms.specs.declared.consensus.{ConsensusFacts.ConsensusFacts, ConsensusLists.ConsensusLists}
+use Rattle.consensus_terms.specs.declared.consensus.{SignedConsensus.SignedConsensus, SourceLine.SourceLine}
+use Rattle.consensus_terms.specs.declared.flavour.Flavour.{Flavour, TheVariants.{Ns, Microdesc}}
+use Rattle.consensus_terms.specs.declared.router.{Bandwidth.Bandwidth, Routerline.Routerline}
 use Rattle.consensus_terms.specs.declared.signature.SignatureLine.{SignatureLine}
 use Rattle.consensus_doc.specs.Reading.{consensus_of, max_consensus}
 use Rattle.consensus_laws.specs.Items.{consensus_items, listed}

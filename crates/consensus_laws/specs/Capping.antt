@@ -1,8 +1,7 @@
 -- The moments that are read are those of the calendar (dir-spec, "Vote and consensus status document formats").
 use Rattle.std.specs.Prelude.{◌≡◌, ℕ, Ok}
 use Rattle.item_terms.specs.Items.{Item}
-use Rattle.frame_values.specs.Lines.{time_of}
-use Rattle.frame_values.specs.Parts.{moment_of}
+use Rattle.frame_values.specs.{Lines.time_of, Parts.moment_of}
 use Rattle.relay_entries.specs.Lines as vote
 use Rattle.relay_entries.specs.declared.said.RelayLine.{RelayLine}
 use Rattle.consensus_terms.specs.declared.flavour.Flavour.{Flavour}

@@ -3,8 +3,7 @@ use Rattle.std.specs.Prelude.{◌≡◌, ℕ, List, [], ◌∷◌, Some, Ok}
 use Rattle.item_terms.specs.Items.{Item, items_from}
 use Rattle.dir_bytes.specs.HexBytes.{hex_bytes}
 use Rattle.frame_values.specs.Parts.{part}
-use Rattle.detached_frame.specs.Lines.{additional_digest_of}
-use Rattle.detached_frame.specs.declared.said.AdditionalDigestLine.{AdditionalDigestLine}
+use Rattle.detached_frame.specs.{Lines.additional_digest_of, declared.said.AdditionalDigestLine.AdditionalDigestLine}
 use Rattle.detached_doc.specs.Facts.{hex_in}
 
 -- The digest of the line, where it is read as one of another flavour, spells in hex the bytes that are kept of it.

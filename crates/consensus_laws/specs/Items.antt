@@ -1,30 +1,22 @@
 -- The items that the text of a consensus has (dir-spec, "Vote and consensus status document formats").
-use Rattle.std.specs.Prelude.{ℕ, List, [], ◌∷◌, ◌++◌, Option, None, option_map, codes, decimal, map}
-use Rattle.std.specs.List.{filter, flat_map, join_with_byte}
+use Rattle.std.specs.{Prelude.{ℕ, List, [], ◌∷◌, ◌++◌, Option, None, option_map, codes, decimal, map}, List.filter}
+use Rattle.std.specs.List.{flat_map, join_with_byte}
 use Rattle.item_terms.specs.Bytes.{space}
 use Rattle.dir_bytes.specs.FieldTexts.{base64_text, hex_text}
-use Rattle.dir_values.specs.FlagSets.{set_text}
-use Rattle.dir_values.specs.declared.digest.Digest2.{Digest2}
+use Rattle.dir_values.specs.{FlagSets.set_text, declared.digest.Digest2.Digest2}
 use Rattle.dirdoc_grammar.specs.Writing.{NewItem}
 use Rattle.frame_terms.specs.declared.keyword.Keyword.{Keyword}
 use Rattle.frame_terms.specs.declared.keyword.Keyword.TheVariants as the
 use Rattle.frame_values.specs.Items.{bare, item_if, moment_item}
 use Rattle.group_laws.specs.Lists.{some_list}
 use Rattle.value_groups.specs.Values.{random_text}
-use Rattle.list_values.specs.Params.{params_text}
-use Rattle.list_values.specs.Protocols.{protocols_text}
-use Rattle.list_values.specs.VersionLists.{versions_text}
-use Rattle.consensus_terms.specs.Lines.{named_text}
-use Rattle.consensus_terms.specs.Routers.{digest_words, is_listed, name_words, place_words, unmeasured_words}
-use Rattle.consensus_terms.specs.Signed.{in_order, signature_item}
-use Rattle.consensus_terms.specs.Texts.{source_words, version_words}
-use Rattle.consensus_terms.specs.declared.consensus.ConsensusFacts.{ConsensusFacts}
-use Rattle.consensus_terms.specs.declared.consensus.ConsensusLists.{ConsensusLists}
-use Rattle.consensus_terms.specs.declared.consensus.SignedConsensus.{SignedConsensus}
-use Rattle.consensus_terms.specs.declared.consensus.SourceLine.{SourceLine}
-use Rattle.consensus_terms.specs.declared.flavour.Flavour.{Flavour}
-use Rattle.consensus_terms.specs.declared.flavour.Flavour.TheVariants.{Ns, Microdesc}
-use Rattle.consensus_terms.specs.declared.router.Bandwidth.{Bandwidth}
+use Rattle.list_values.specs.{Params.params_text, Protocols.protocols_text, VersionLists.versions_text}
+use Rattle.consensus_terms.specs.{Lines.named_text, Routers.{digest_words, is_listed, name_words, place_words}}
+use Rattle.consensus_terms.specs.{Routers.unmeasured_words, Signed.{in_order, signature_item}, Texts.source_words}
+use Rattle.consensus_terms.specs.{Texts.version_words, declared.consensus.ConsensusFacts.ConsensusFacts}
+use Rattle.consensus_terms.specs.declared.consensus.{ConsensusLists.ConsensusLists, SignedConsensus.SignedConsensus}
+use Rattle.consensus_terms.specs.declared.{consensus.SourceLine.SourceLine, flavour.Flavour.{Flavour, TheVariants.Ns}}
+use Rattle.consensus_terms.specs.declared.{flavour.Flavour.TheVariants.Microdesc, router.Bandwidth.Bandwidth}
 use Rattle.consensus_terms.specs.declared.router.Routerline.{Routerline}
 
 -- an item whose line has these words

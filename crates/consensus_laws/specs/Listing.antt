@@ -1,12 +1,9 @@
 -- The texts of lines of lists that are read list what is kept of them (dir-spec, "Vote and consensus status document
 -- formats").
 use Rattle.std.specs.Prelude.{◌≡◌, ℕ, List, [], ◌∷◌, Ok}
-use Rattle.item_terms.specs.Items.{Item, items_from}
-use Rattle.item_terms.specs.Words.{words_of}
+use Rattle.item_terms.specs.{Items.{Item, items_from}, Words.words_of}
 use Rattle.dir_values.specs.FlagSets.{as_set, flag_set}
-use Rattle.frame_values.specs.Lines.{flags_of}
-use Rattle.frame_values.specs.Parts.{part}
-use Rattle.frame_values.specs.declared.found.Span.{Span}
+use Rattle.frame_values.specs.{Lines.flags_of, Parts.part, declared.found.Span.Span}
 use Rattle.list_values.specs.Params as params
 use Rattle.list_values.specs.Protocols as protocols
 use Rattle.list_values.specs.VersionLists as versions

@@ -1,6 +1,5 @@
 -- A list has a member at each place that it has, in ascending order (dir-spec, "Computing a consensus from a set of votes").
-use Rattle.std.specs.Prelude.{◌≡◌, ℕ, ◌<◌, List, length, Some}
-use Rattle.std.specs.List.{find}
+use Rattle.std.specs.{Prelude.{◌≡◌, ℕ, ◌<◌, List, length, Some}, List.find}
 use Rattle.count_terms.specs.Counts.{low_median, member_at, middle, stands_at}
 
 -- A member of the list stands there, and is the one that is taken.

@@ -2,9 +2,7 @@
 use Rattle.std.specs.Prelude.{◌≡◌, ℕ, Bool, List, [], ◌∷◌, Some, Ok}
 use Rattle.item_terms.specs.Items.{Item, items_from}
 use Rattle.dirdoc_grammar.specs.Bodies.{decoded_bytes}
-use Rattle.frame_values.specs.Parts.{bytes_in, part}
-use Rattle.frame_values.specs.Signatures.{object_of}
-use Rattle.frame_values.specs.declared.found.Span.{Span}
+use Rattle.frame_values.specs.{Parts.{bytes_in, part}, Signatures.object_of, declared.found.Span.Span}
 
 -- The lines of the item's object, where they are read, spell the bytes that are kept of them.
 abbrev pub SpellsBytes : List ℕ → Item → Type 0

@@ -1,5 +1,6 @@
 // What the definitions of reading and of writing have in common.
-ghost use Rattle.consensus_laws.specs.Again.{ComputedConsensusesAreReadAgain, ConsensusesAreReadAgain, ConsensusesInOrderAreTheSame, SignedPartsStand};
+ghost use Rattle.consensus_laws.specs.Again.{ComputedConsensusesAreReadAgain, ConsensusesAreReadAgain};
+ghost use Rattle.consensus_laws.specs.Again.{ConsensusesInOrderAreTheSame, SignedPartsStand};
 
 /// A law: a consensus of either flavour that was written is read again as its flavour has it, and ends with the input.
 pub fn consensuses_are_read_again()

@@ -1,11 +1,7 @@
 // That nothing is lost of what is read of a document.
-ghost use Rattle.consensus_laws.specs.Capping.{MomentsAreNotCapped};
-ghost use Rattle.consensus_laws.specs.HexDigests.{DigestsAreHex};
-ghost use Rattle.consensus_laws.specs.Listing.{ListsAreReadWhole};
-ghost use Rattle.consensus_laws.specs.Members.{MembersAreThere};
-ghost use Rattle.consensus_laws.specs.Methods.{MethodsAreNotCapped};
-ghost use Rattle.consensus_laws.specs.SaidDigests.{DigestsAreSaid};
-ghost use Rattle.consensus_laws.specs.Spelling.{ObjectsSpellBytes};
+ghost use Rattle.consensus_laws.specs.{Capping.MomentsAreNotCapped, HexDigests.DigestsAreHex};
+ghost use Rattle.consensus_laws.specs.{Listing.ListsAreReadWhole, Members.MembersAreThere, Methods.MethodsAreNotCapped};
+ghost use Rattle.consensus_laws.specs.{SaidDigests.DigestsAreSaid, Spelling.ObjectsSpellBytes};
 
 /// A law: the lines of each object of an item that is read spell bytes, which are those that are kept of it.
 pub fn objects_spell_bytes()

@@ -1,39 +1,25 @@
 -- What is read of a consensus is in range.
-use Rattle.std.proofs.Common.{◌≡◌, ℕ, true, List, [], length, Result, Ok, Err, refl, sym, ap}
-use Rattle.std.proofs.Common.{subst}
-use Rattle.std.specs.Prelude.{All}
-use Rattle.std.proofs.lemmas.List.Elements.{All-filter, All-nil, All-push}
-use Rattle.std.proofs.lemmas.List.Kept.{AllPairs-filter}
+use Rattle.std.proofs.Common.{◌≡◌, ℕ, true, List, [], length, Result, Ok, Err, refl, sym, ap, subst}
+use Rattle.std.{proofs.lemmas.List.{Elements.{All-filter, All-nil, All-push}, Kept.AllPairs-filter}, specs.Prelude.All}
 use Rattle.base64.specs.GeneralPurpose.{IsBytes}
 use Rattle.item_terms.specs.Items.{items_of}
-use Rattle.dir_values.specs.Arguments.{arguments_at}
-use Rattle.dir_values.specs.Digests.{identity_below}
-use Rattle.dir_values.specs.FlagSets.{wrong_flag}
-use Rattle.frame_terms.specs.Documents.{Document, document_of, finish}
-use Rattle.frame_terms.specs.declared.fault.ReadRefusal.{ReadRefusal}
+use Rattle.dir_values.specs.{Arguments.arguments_at, Digests.identity_below, FlagSets.wrong_flag}
+use Rattle.frame_terms.specs.{Documents.{Document, document_of, finish}, declared.fault.ReadRefusal.ReadRefusal}
 use Rattle.frame_values.specs.declared.values.Value.{Value}
-use Rattle.consensus_terms.specs.Routers.{is_listed}
-use Rattle.consensus_terms.specs.declared.consensus.SignedConsensus.{SignedConsensus}
-use Rattle.consensus_terms.specs.declared.flavour.Flavour.{Flavour}
-use Rattle.consensus_terms.specs.declared.router.Routerline.{Routerline}
-use Rattle.consensus_frame.specs.Tables.{consensus_tables}
-use Rattle.consensus_frame.specs.declared.rows.ConsensusSection.{ConsensusSection}
-use Rattle.consensus_frame.specs.declared.rows.ConsensusSection.TheVariants as section
+use Rattle.consensus_terms.specs.{Routers.is_listed, declared.consensus.SignedConsensus.SignedConsensus}
+use Rattle.consensus_terms.specs.declared.{flavour.Flavour.Flavour, router.Routerline.Routerline}
+use Rattle.consensus_frame.specs.{Tables.consensus_tables, declared.rows.ConsensusSection.ConsensusSection}
 use Rattle.consensus_frame.specs.declared.value.ConsensusValue.{ConsensusValue}
-use Rattle.consensus_doc.specs.Drafts.{no_draft, router_of, source_of, with_section}
-use Rattle.consensus_doc.specs.Reading.{consensus_as, consensus_in, consensus_of, flavour_of, max_consensus}
-use Rattle.consensus_doc.specs.Reading.{with_consensus}
-use Rattle.consensus_laws.specs.Again.{AreFactsInRange, Ascending, IsAuthorityInRange, IsRouterInRange}
-use Rattle.consensus_laws.specs.Again.{facts_as_read, known_signatures}
-use Rattle.consensus_laws.proofs.ConsensusAgain.{same_again}
-use Rattle.document_laws.specs.Counts.{RowsStand}
-use Rattle.row_laws.proofs.KindRanges.{read_is}
-use Rattle.row_laws.proofs.ReadBytes.{bytes_by_test}
-use Rattle.row_laws.proofs.Saying.{EachStands}
-use Rattle.consensus_ranges.specs.Read.{ConsensusesReadAreInRange, ReadConsensusesAreReadAgain, SaysInRange}
-use Rattle.consensus_ranges.proofs.RelayOrder.{relays_ascend}
+use Rattle.consensus_frame.specs.declared.rows.ConsensusSection.TheVariants as section
+use Rattle.consensus_doc.specs.{Drafts.{no_draft, router_of, source_of, with_section}, Reading.consensus_as}
+use Rattle.consensus_doc.specs.Reading.{consensus_in, consensus_of, flavour_of, max_consensus, with_consensus}
+use Rattle.consensus_laws.specs.Again.{AreFactsInRange, Ascending, IsAuthorityInRange, IsRouterInRange, facts_as_read}
+use Rattle.consensus_laws.{specs.Again.known_signatures, proofs.ConsensusAgain.same_again}
 use Rattle.consensus_laws.proofs.ConsensusSays.{ConsensusTaken}
-use Rattle.consensus_ranges.proofs.SectionRanges.{Draft, IsRouterRead, facts_whole}
+use Rattle.document_laws.specs.Counts.{RowsStand}
+use Rattle.row_laws.proofs.{KindRanges.read_is, ReadBytes.bytes_by_test, Saying.EachStands}
+use Rattle.consensus_ranges.specs.Read.{ConsensusesReadAreInRange, ReadConsensusesAreReadAgain, SaysInRange}
+use Rattle.consensus_ranges.proofs.{RelayOrder.relays_ascend, SectionRanges.{Draft, IsRouterRead, facts_whole}}
 use Rattle.consensus_ranges.proofs.SectionRanges.{preamble_ranged, router_read, source_ranged}
 use Rattle.consensus_ranges.proofs.ItemRanges.{IsSignatureRead, signatures_read, signatures_whole}
 

@@ -1,55 +1,38 @@
 -- What the items of a consensus say is in range, by their kinds, and so are its signatures.
 use Rattle.std.proofs.Common.{◌≡◌, ℕ, Bool, true, cond, List, [], ◌∷◌, Option, Some, None, Result, Ok, Err, refl, sym}
-use Rattle.std.proofs.Common.{ap, subst, ◌∙◌}
-use Rattle.std.specs.Prelude.{All, IfSome}
-use Rattle.std.specs.List.{filter}
-use Rattle.std.proofs.lemmas.List.Elements.{All-append, All-cons, All-head, All-nil, All-tail}
+use Rattle.std.proofs.{Common.{ap, subst, ◌∙◌}, lemmas.List.Elements.{All-append, All-cons, All-head, All-nil}}
+use Rattle.std.{proofs.lemmas.List.Elements.All-tail, specs.{Prelude.{All, IfSome}, List.filter}}
 use Rattle.base64.specs.GeneralPurpose.{IsBytes}
 use Rattle.dir_bytes.specs.Fields.{hex}
 use Rattle.dirdoc_grammar.specs.Writers.{is_argument}
-use Rattle.dir_values.specs.Digests.{fingerprint}
-use Rattle.dir_values.specs.declared.algorithm.Algorithm.{Algorithm}
-use Rattle.dir_values.specs.declared.algorithm.Algorithm.TheVariants.{Sha1, Sha256}
-use Rattle.dir_values.specs.declared.digest.Digest1.{Digest1}
-use Rattle.dir_values.specs.declared.digest.Digest2.{Digest2}
+use Rattle.dir_values.specs.{Digests.fingerprint, declared.algorithm.Algorithm.{Algorithm, TheVariants.{Sha1, Sha256}}}
+use Rattle.dir_values.specs.declared.digest.{Digest1.Digest1, Digest2.Digest2}
 use Rattle.frame_terms.specs.declared.document.Taken.{Taken}
-use Rattle.frame_values.specs.Arguments.{arguments_of, front, next}
-use Rattle.frame_values.specs.Faults.{at_place}
-use Rattle.frame_values.specs.Lines.{delays_of, flags_of, rest_of, source_of}
-use Rattle.frame_values.specs.Ranges.{AreTwenty}
-use Rattle.frame_values.specs.declared.found.DirSource.{DirSource}
-use Rattle.frame_values.specs.declared.found.Span.{Span}
-use Rattle.frame_values.specs.declared.found.VoteSignature.{VoteSignature}
-use Rattle.frame_values.specs.declared.values.Value.{Value}
+use Rattle.frame_values.specs.{Arguments.{arguments_of, front, next}, Faults.at_place, Lines.{delays_of, flags_of}}
+use Rattle.frame_values.specs.{Lines.{rest_of, source_of}, Ranges.AreTwenty, declared.found.DirSource.DirSource}
+use Rattle.frame_values.specs.declared.{found.{Span.Span, VoteSignature.VoteSignature}, values.Value.Value}
 use Rattle.frame_values.specs.declared.values.Value.TheVariants as value
-use Rattle.value_groups.specs.Lines.{random_of}
-use Rattle.value_groups.specs.declared.value.SharedRandom.{SharedRandom}
+use Rattle.value_groups.specs.{Lines.random_of, declared.value.SharedRandom.SharedRandom}
 use Rattle.group_laws.specs.LineAgain.{IsRandomInRange}
-use Rattle.relay_entries.specs.Lines.{address_of, lifted_entry_value}
-use Rattle.relay_entries.specs.declared.said.EntryKind.TheVariants as entry
-use Rattle.relay_entries.specs.declared.said.EntryValue.{EntryValue}
-use Rattle.relay_entries.specs.declared.said.EntryValue.TheVariants as said
+use Rattle.relay_entries.specs.{Lines.{address_of, lifted_entry_value}, declared.said.EntryValue.EntryValue}
 use Rattle.relay_entries.specs.declared.said.RelayLine.{RelayLine}
-use Rattle.consensus_terms.specs.declared.flavour.Flavour.{Flavour}
-use Rattle.consensus_terms.specs.declared.router.Bandwidth.{Bandwidth}
+use Rattle.relay_entries.specs.declared.said.EntryKind.TheVariants as entry
+use Rattle.relay_entries.specs.declared.said.EntryValue.TheVariants as said
+use Rattle.consensus_terms.specs.declared.{flavour.Flavour.Flavour, router.Bandwidth.Bandwidth}
 use Rattle.consensus_terms.specs.declared.signature.SignatureLine.{SignatureLine}
 use Rattle.consensus_frame.specs.Lines.{bandwidth_of, micro_digest_of, relay_of, vote_digest_of}
 use Rattle.consensus_frame.specs.Tables.{consensus_tables, signature_of, value_at}
-use Rattle.consensus_frame.specs.declared.rows.ConsensusKind.{ConsensusKind}
+use Rattle.consensus_frame.specs.declared.{rows.ConsensusKind.ConsensusKind, value.ConsensusValue.ConsensusValue}
 use Rattle.consensus_frame.specs.declared.rows.ConsensusKind.TheVariants as kind
 use Rattle.consensus_frame.specs.declared.rows.ConsensusSection.TheVariants as section
-use Rattle.consensus_frame.specs.declared.value.ConsensusValue.{ConsensusValue}
 use Rattle.consensus_frame.specs.declared.value.ConsensusValue.TheVariants as own
 use Rattle.consensus_doc.specs.Drafts as drafts
 use Rattle.consensus_doc.specs.Drafts.{algorithm_name, all_signatures, signatures_in}
 use Rattle.consensus_laws.specs.Again.{IsSignatureInRange, is_known, known_signatures}
-use Rattle.row_laws.proofs.KindRanges.{KindIs, kind_read, kind_unless}
-use Rattle.row_laws.proofs.ReadSteps.{key_digest_reads, placed, was_read}
-use Rattle.row_laws.proofs.SaidByKinds.{said_of_any}
-use Rattle.row_laws.proofs.Saying.{EachStands, Says}
+use Rattle.row_laws.proofs.{KindRanges.{KindIs, kind_read, kind_unless}, ReadSteps.{key_digest_reads, placed, was_read}}
+use Rattle.row_laws.proofs.{SaidByKinds.said_of_any, Saying.{EachStands, Says}}
 use Rattle.range_laws.proofs.LineReads.{AreDelays, IsSigned, IsSourceIn, delays_read, source_reads}
-use Rattle.range_laws.proofs.RandomReads.{random_reads}
-use Rattle.range_laws.proofs.RelayReads.{AreNamesAt, IsAddressAt, address_reads, flags_read}
+use Rattle.range_laws.proofs.{RandomReads.random_reads, RelayReads.{AreNamesAt, IsAddressAt, address_reads, flags_read}}
 use Rattle.range_laws.proofs.VoteStands.{any_says}
 use Rattle.consensus_ranges.proofs.LineRanges.{IsDigest, IsRelayIn, IsSignedIf, IsSmall, bandwidth_reads}
 use Rattle.consensus_ranges.proofs.LineRanges.{micro_digest_reads, relay_reads, signature_reads}

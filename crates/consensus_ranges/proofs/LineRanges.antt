@@ -1,41 +1,25 @@
 -- What is read of the lines that a consensus alone has is in range.
-use Rattle.std.proofs.Common.{◌≡◌, ℕ, ◌≤◌, Bool, true, false, List, [], ◌∷◌, Option, Some, None}
-use Rattle.std.proofs.Common.{Result, Ok, Err, refl, subst}
-use Rattle.std.specs.Prelude.{IfSome, codes, not, ◌||◌}
-use Rattle.std.specs.Option.{option_map}
-use Rattle.std.specs.Str.{bytes_eq}
-use Rattle.std.proofs.lemmas.Bool.{cond_both}
+use Rattle.std.proofs.Common.{◌≡◌, ℕ, ◌≤◌, Bool, true, false, List, [], ◌∷◌, Option, Some, None, Result, Ok, Err, refl}
+use Rattle.std.{proofs.{Common.subst, lemmas.Bool.cond_both}, specs.Prelude.{IfSome, codes, not, ◌||◌}}
+use Rattle.std.specs.{Option.option_map, Str.bytes_eq}
 use Rattle.base64.specs.GeneralPurpose.{IsBytes}
-use Rattle.item_terms.specs.Items.{Item}
-use Rattle.item_terms.specs.Words.{strip}
-use Rattle.dir_values.specs.Arguments.{Argument}
-use Rattle.dir_values.specs.Digests.{digest2}
-use Rattle.dir_values.specs.declared.algorithm.Algorithm.{Algorithm}
-use Rattle.dir_values.specs.declared.digest.Digest1.{Digest1}
-use Rattle.dir_values.specs.declared.digest.Digest2.{Digest2}
-use Rattle.frame_values.specs.Arguments.{arguments_of, field, front, others}
-use Rattle.frame_values.specs.Fields.{is_there}
-use Rattle.frame_values.specs.Ranges.{AreTwenty}
-use Rattle.frame_values.specs.Values.{no_digest}
-use Rattle.frame_values.specs.Signatures.{after_algorithm, algorithm_if, known_signature_of, signed_by, signed_if}
-use Rattle.frame_values.specs.Signatures.{space_of}
-use Rattle.frame_values.specs.declared.found.VoteSignature.{VoteSignature}
-use Rattle.relay_entries.specs.Fields.{with_argument}
-use Rattle.relay_entries.specs.declared.said.Bandwidths.{Bandwidths}
-use Rattle.relay_entries.specs.declared.said.RelayLine.{RelayLine}
+use Rattle.item_terms.specs.{Items.Item, Words.strip}
+use Rattle.dir_values.specs.{Arguments.Argument, Digests.digest2, declared.algorithm.Algorithm.Algorithm}
+use Rattle.dir_values.specs.declared.digest.{Digest1.Digest1, Digest2.Digest2}
+use Rattle.frame_values.specs.{Arguments.{arguments_of, field, front, others}, Fields.is_there, Ranges.AreTwenty}
+use Rattle.frame_values.specs.{Values.no_digest, Signatures.{after_algorithm, algorithm_if, known_signature_of}}
+use Rattle.frame_values.specs.{Signatures.{signed_by, signed_if, space_of}, declared.found.VoteSignature.VoteSignature}
+use Rattle.relay_entries.specs.{Fields.with_argument, declared.said.{Bandwidths.Bandwidths, RelayLine.RelayLine}}
 use Rattle.group_laws.specs.Ranges.{AreBandwidthsInRange, AreThirtyTwo}
-use Rattle.consensus_terms.specs.declared.flavour.Flavour.{Flavour}
-use Rattle.consensus_terms.specs.declared.flavour.Flavour.TheVariants.{Ns, Microdesc}
+use Rattle.consensus_terms.specs.declared.flavour.Flavour.{Flavour, TheVariants.{Ns, Microdesc}}
 use Rattle.consensus_terms.specs.declared.router.Bandwidth.{Bandwidth}
 use Rattle.consensus_frame.specs.Lines.{after_digest, bandwidth_by, bandwidth_of, digest_here, micro_digest_of}
 use Rattle.consensus_frame.specs.Lines.{nothing_said, relay_of, with_word, with_word_by, with_words}
-use Rattle.consensus_frame.specs.Tables.{signature_of}
-use Rattle.consensus_frame.specs.declared.line.Said.{Said}
+use Rattle.consensus_frame.specs.{Tables.signature_of, declared.line.Said.Said}
 use Rattle.consensus_laws.specs.Again.{IsDigestInRange}
-use Rattle.row_laws.proofs.ItemArguments.{AreFound, IsSound, are_found, others_found}
-use Rattle.row_laws.proofs.ReadSteps.{ReadAs, any_reads, field_reads, front_bytes, if_reads, next_reads}
-use Rattle.range_laws.proofs.EntryReads.{thirty_two, with_either_ranged}
-use Rattle.range_laws.proofs.LineReads.{IsSigned, signed_reads}
+use Rattle.row_laws.proofs.{ItemArguments.{AreFound, IsSound, are_found, others_found}, ReadSteps.{ReadAs, any_reads}}
+use Rattle.row_laws.proofs.ReadSteps.{field_reads, front_bytes, if_reads, next_reads}
+use Rattle.range_laws.proofs.{EntryReads.{thirty_two, with_either_ranged}, LineReads.{IsSigned, signed_reads}}
 use Rattle.range_laws.proofs.RelayReads.{IsRelayOf, digest_reads, relay_with_reads}
 
 -- ---- relays

@@ -1,56 +1,35 @@
 -- The relays of a consensus ascend by identity, each once: the first item of each comes behind what is remembered,
 -- and what is remembered never goes back, whatever an item says.
-use Rattle.std.proofs.Common.{◌≡◌, ℕ, Bool, true, false, List, [], ◌∷◌, ◌++◌, Option, Some, None, Result, Ok, Err}
-use Rattle.std.proofs.Common.{refl, sym, ap, subst, ◌∙◌}
-use Rattle.std.specs.Prelude.{All, if◌then◌else◌}
+use Rattle.std.proofs.Common.{◌≡◌, ℕ, Bool, true, false, List, [], ◌∷◌, ◌++◌, Option, Some, None, Result, Ok, Err, refl}
+use Rattle.std.proofs.{Common.{sym, ap, subst, ◌∙◌}, lemmas.{Bool.false≢true, List.Elements.{All-nil, All-push}}}
+use Rattle.std.{proofs.lemmas.List.{Elements.All-weaker, Quantifiers.all_pairs_push}, specs.Prelude.All}
+use Rattle.std.specs.{Prelude.if◌then◌else◌, List.fold}
 use Rattle.std.specs.FinSet as set
-use Rattle.std.specs.List.{fold}
-use Rattle.std.proofs.lemmas.Bool.{false≢true}
-use Rattle.std.proofs.lemmas.List.Elements.{All-nil, All-push, All-weaker}
-use Rattle.std.proofs.lemmas.List.Quantifiers.{all_pairs_push}
-use Rattle.item_terms.specs.declared.fault.DocFault.{DocFault}
-use Rattle.item_terms.specs.Items.{Contents, Item}
-use Rattle.dir_values.specs.Digests.{identity_below}
-use Rattle.dir_values.specs.declared.digest.Fingerprint.{Fingerprint}
+use Rattle.item_terms.specs.{declared.fault.DocFault.DocFault, Items.{Contents, Item}}
+use Rattle.dir_values.specs.{Digests.identity_below, declared.digest.Fingerprint.Fingerprint}
 use Rattle.dir_values.proofs.Orders.{below-trans}
-use Rattle.frame_terms.specs.Documents.{Document, document_of}
-use Rattle.frame_terms.specs.Keywords.{same}
-use Rattle.frame_terms.specs.Order.{is_keyword, opener}
-use Rattle.frame_terms.specs.Rows.{row}
-use Rattle.frame_terms.specs.declared.document.Open.{Open}
-use Rattle.frame_terms.specs.declared.fault.FrameFault.{FrameFault}
-use Rattle.frame_terms.specs.declared.fault.FrameReason.TheVariants.{DuplicateEd, Unsorted}
-use Rattle.frame_terms.specs.declared.keyword.Keyword.{Keyword}
-use Rattle.frame_terms.specs.declared.keyword.Keyword.TheVariants as the
+use Rattle.frame_terms.specs.{Documents.{Document, document_of}, Keywords.same, Order.{is_keyword, opener}, Rows.row}
+use Rattle.frame_terms.specs.declared.{document.Open.Open, fault.FrameFault.FrameFault}
+use Rattle.frame_terms.specs.declared.{fault.FrameReason.TheVariants.{DuplicateEd, Unsorted}, keyword.Keyword.Keyword}
 use Rattle.frame_terms.specs.declared.row.Count.TheVariants.{One}
-use Rattle.frame_values.specs.Values.{item_at, own_of_value}
-use Rattle.frame_values.specs.declared.values.Value.{Value}
+use Rattle.frame_terms.specs.declared.keyword.Keyword.TheVariants as the
+use Rattle.frame_values.specs.{Values.{item_at, own_of_value}, declared.values.Value.Value}
 use Rattle.frame_values.specs.declared.values.Value.TheVariants as value
 use Rattle.frame_laws.proofs.KnownWords.{same-sym}
-use Rattle.relay_entries.specs.Listing.{fault_at, is_next, with_key, with_relay}
+use Rattle.relay_entries.specs.{Listing.{fault_at, is_next, with_key, with_relay}, declared.said.RelayLine.RelayLine}
 use Rattle.relay_entries.specs.declared.said.EdOpinion.TheVariants as opinion
 use Rattle.relay_entries.specs.declared.said.EntryValue.TheVariants as said
-use Rattle.relay_entries.specs.declared.said.RelayLine.{RelayLine}
-use Rattle.consensus_terms.specs.declared.flavour.Flavour.{Flavour}
-use Rattle.consensus_terms.specs.declared.router.Routerline.{Routerline}
-use Rattle.consensus_frame.specs.Lines.{relay_of}
-use Rattle.consensus_frame.specs.Tables.{consensus_tables, note_value, value_at, with_listed}
-use Rattle.consensus_frame.specs.declared.across.Across.{Across}
-use Rattle.consensus_frame.specs.declared.rows.ConsensusKind.TheVariants as kind
-use Rattle.consensus_frame.specs.declared.rows.ConsensusSection.{ConsensusSection}
-use Rattle.consensus_frame.specs.declared.rows.ConsensusSection.TheVariants as section
+use Rattle.consensus_terms.specs.declared.{flavour.Flavour.Flavour, router.Routerline.Routerline}
+use Rattle.consensus_frame.specs.{Lines.relay_of, Tables.{consensus_tables, note_value, value_at, with_listed}}
+use Rattle.consensus_frame.specs.declared.{across.Across.Across, rows.ConsensusSection.ConsensusSection}
 use Rattle.consensus_frame.specs.declared.value.ConsensusValue.{ConsensusValue}
+use Rattle.consensus_frame.specs.declared.rows.ConsensusKind.TheVariants as kind
+use Rattle.consensus_frame.specs.declared.rows.ConsensusSection.TheVariants as section
 use Rattle.consensus_frame.specs.declared.value.ConsensusValue.TheVariants as own
-use Rattle.consensus_doc.specs.Drafts.{no_draft, router_of, with_section}
-use Rattle.consensus_doc.specs.Saying.{relay_in, relay_of_value}
-use Rattle.consensus_laws.specs.Again.{Ascending}
-use Rattle.consensus_laws.proofs.ConsensusKept.{ConsensusGroup}
-use Rattle.document_laws.proofs.Rules.{Rules, holds}
-use Rattle.document_laws.specs.Items.{IsItemOf}
-use Rattle.row_laws.proofs.ReadSteps.{placed}
-use Rattle.row_laws.proofs.SaidByKinds.{said_of_any}
-use Rattle.row_laws.proofs.Saying.{by_own_row}
-use Rattle.consensus_laws.proofs.ConsensusSays.{ConsensusTaken}
+use Rattle.consensus_doc.specs.{Drafts.{no_draft, router_of, with_section}, Saying.{relay_in, relay_of_value}}
+use Rattle.consensus_laws.{specs.Again.Ascending, proofs.{ConsensusKept.ConsensusGroup, ConsensusSays.ConsensusTaken}}
+use Rattle.document_laws.{proofs.Rules.{Rules, holds}, specs.Items.IsItemOf}
+use Rattle.row_laws.proofs.{ReadSteps.placed, SaidByKinds.said_of_any, Saying.by_own_row}
 use Rattle.consensus_ranges.proofs.SectionRanges.{Draft, none_ascend, nothing_inside}
 
 -- ---- what is remembered

@@ -1,69 +1,45 @@
 -- What a section of a consensus says is in range, and a relay that is read is as its flavour has it.
 use Rattle.std.proofs.Common.{◌≡◌, ℕ, true, List, [], Option, Some, None, refl, sym, ap, ◌∙◌, arith}
-use Rattle.std.specs.Prelude.{All, IfSome, is_some, map}
-use Rattle.std.specs.Option.{option_map}
-use Rattle.std.proofs.lemmas.List.Elements.{All-nil, All-weaker}
-use Rattle.std.proofs.lemmas.List.Folds.{map_fixed}
+use Rattle.std.{proofs.lemmas.List.{Elements.{All-nil, All-weaker}, Folds.map_fixed}, specs.Prelude.{All, IfSome}}
+use Rattle.std.specs.{Prelude.{is_some, map}, Option.option_map}
 use Rattle.base64.specs.GeneralPurpose.{IsBytes}
 use Rattle.item_terms.specs.Words.{words_of}
-use Rattle.dir_values.specs.Digests.{identity_below}
-use Rattle.dir_values.specs.FlagSets.{as_set}
-use Rattle.dir_values.specs.declared.digest.Digest1.{Digest1}
-use Rattle.dir_values.specs.declared.digest.Digest2.{Digest2}
-use Rattle.dir_values.proofs.Flags.{Ascend-as_set}
-use Rattle.dir_values.proofs.Orders.{AllPairs-nil}
-use Rattle.frame_terms.specs.Keywords.{same}
-use Rattle.frame_terms.specs.Order.{inner}
-use Rattle.frame_terms.specs.Sections.{row_of}
-use Rattle.frame_terms.specs.declared.keyword.Keyword.{Keyword}
-use Rattle.frame_terms.specs.declared.keyword.Keyword.TheVariants as the
+use Rattle.dir_values.specs.{Digests.identity_below, FlagSets.as_set, declared.digest.Digest1.Digest1}
+use Rattle.dir_values.{specs.declared.digest.Digest2.Digest2, proofs.{Flags.Ascend-as_set, Orders.AllPairs-nil}}
+use Rattle.frame_terms.specs.{Keywords.same, Order.inner, Sections.row_of, declared.keyword.Keyword.Keyword}
 use Rattle.frame_terms.specs.declared.row.Row.{Row}
-use Rattle.frame_values.specs.Parts.{part}
-use Rattle.frame_values.specs.Ranges.{AreTwenty}
-use Rattle.frame_values.specs.Values.{item_at, no_digest, text_if, text_in}
-use Rattle.frame_values.specs.declared.found.Span.{Span}
-use Rattle.frame_values.specs.declared.values.Value.{Value}
+use Rattle.frame_terms.specs.declared.keyword.Keyword.TheVariants as the
+use Rattle.frame_values.specs.{Parts.part, Ranges.AreTwenty, Values.{item_at, no_digest, text_if, text_in}}
+use Rattle.frame_values.specs.declared.{found.Span.Span, values.Value.Value}
 use Rattle.frame_values.specs.declared.values.Value.TheVariants as value
-use Rattle.group_laws.specs.LineAgain.{AreFlagsInRange, IsRandomInRange}
-use Rattle.group_laws.specs.Ranges.{IsAddressInRange}
-use Rattle.relay_entries.specs.Lines.{micro_of}
+use Rattle.group_laws.specs.{LineAgain.{AreFlagsInRange, IsRandomInRange}, Ranges.IsAddressInRange}
+use Rattle.relay_entries.specs.{Lines.micro_of, declared.said.MicroLine.MicroLine}
 use Rattle.relay_entries.specs.declared.said.EntryKind.TheVariants as entry
 use Rattle.relay_entries.specs.declared.said.EntryValue.TheVariants as said
-use Rattle.relay_entries.specs.declared.said.MicroLine.{MicroLine}
-use Rattle.consensus_terms.specs.Routers.{is_listed}
-use Rattle.consensus_terms.specs.declared.consensus.ConsensusFacts.{ConsensusFacts}
-use Rattle.consensus_terms.specs.declared.flavour.Flavour.{Flavour}
-use Rattle.consensus_terms.specs.declared.flavour.Flavour.TheVariants.{Ns, Microdesc}
-use Rattle.consensus_terms.specs.declared.router.Bandwidth.{Bandwidth}
-use Rattle.consensus_terms.specs.declared.router.Routerline.{Routerline}
-use Rattle.consensus_frame.specs.Tables.{consensus_tables, rows}
-use Rattle.consensus_frame.specs.declared.rows.ConsensusKind.{ConsensusKind}
+use Rattle.consensus_terms.specs.{Routers.is_listed, declared.consensus.ConsensusFacts.ConsensusFacts}
+use Rattle.consensus_terms.specs.declared.flavour.Flavour.{Flavour, TheVariants.{Ns, Microdesc}}
+use Rattle.consensus_terms.specs.declared.router.{Bandwidth.Bandwidth, Routerline.Routerline}
+use Rattle.consensus_frame.specs.{Tables.{consensus_tables, rows}, declared.rows.ConsensusKind.ConsensusKind}
+use Rattle.consensus_frame.specs.declared.{rows.ConsensusSection.ConsensusSection, value.ConsensusValue.ConsensusValue}
 use Rattle.consensus_frame.specs.declared.rows.ConsensusKind.TheVariants as kind
-use Rattle.consensus_frame.specs.declared.rows.ConsensusSection.{ConsensusSection}
 use Rattle.consensus_frame.specs.declared.rows.ConsensusSection.TheVariants as section
-use Rattle.consensus_frame.specs.declared.value.ConsensusValue.{ConsensusValue}
 use Rattle.consensus_frame.specs.declared.value.ConsensusValue.TheVariants as own
 use Rattle.consensus_doc.specs.Drafts.{lists_of, no_draft, preamble_facts, router_of, source_of, text_or_none}
 use Rattle.consensus_doc.specs.Saying.{bandwidth_in, delays_in, micro_digest_in, random_in, relay_in, source_in}
 use Rattle.consensus_doc.specs.Saying.{vote_digest_in}
-use Rattle.consensus_laws.proofs.ConsensusSays.{ConsensusTaken}
-use Rattle.consensus_laws.specs.Again.{AreFactsInRange, AreListsInRange, Ascending, IsAuthorityInRange, IsMicroInRange}
-use Rattle.consensus_laws.specs.Again.{IsRouterInRange, facts_as_read, router_as_read}
+use Rattle.consensus_laws.{proofs.ConsensusSays.ConsensusTaken, specs.Again.{AreFactsInRange, AreListsInRange}}
+use Rattle.consensus_laws.specs.Again.{Ascending, IsAuthorityInRange, IsMicroInRange, IsRouterInRange, facts_as_read}
+use Rattle.consensus_laws.specs.Again.{router_as_read}
 use Rattle.document_laws.specs.Counts.{RowsStand}
-use Rattle.row_laws.proofs.KindRanges.{KindIs, field_is, kind_read, once_there}
-use Rattle.row_laws.proofs.ReadBytes.{twenty_zeros}
-use Rattle.row_laws.proofs.ReadSteps.{any_reads}
-use Rattle.row_laws.proofs.Saying.{EachStands}
-use Rattle.range_laws.proofs.LineReads.{AreDelays, IsSourceIn}
-use Rattle.range_laws.proofs.ReadLists.{params_ranged, protocols_ranged, versions_ranged}
-use Rattle.range_laws.proofs.ReadNames.{IsName}
+use Rattle.row_laws.proofs.{KindRanges.{KindIs, field_is, kind_read, once_there}, ReadBytes.twenty_zeros}
+use Rattle.row_laws.proofs.{ReadSteps.any_reads, Saying.EachStands}
+use Rattle.range_laws.proofs.{LineReads.{AreDelays, IsSourceIn}, ReadLists.{params_ranged, protocols_ranged}}
+use Rattle.range_laws.proofs.{ReadLists.versions_ranged, ReadNames.IsName, RelayReads.AreNamesAt}
 use Rattle.vote_laws.proofs.FlagSets.{All-as_set}
-use Rattle.range_laws.proofs.RelayReads.{AreNamesAt}
 use Rattle.consensus_ranges.proofs.ItemRanges.{address_is, bandwidth_is, delays_are, flags_are, known_flags_are}
 use Rattle.consensus_ranges.proofs.ItemRanges.{lifted_value, micro_digest_is, random_is, relay_is, source_is}
-use Rattle.consensus_ranges.proofs.ItemRanges.{vote_digest_is}
-use Rattle.consensus_ranges.proofs.LineRanges.{IsDigest, IsRelayIn, IsSmall, digest_ranged}
-use Rattle.consensus_ranges.proofs.ItemRanges.{none_left_out}
+use Rattle.consensus_ranges.proofs.{ItemRanges.{vote_digest_is, none_left_out}, LineRanges.{IsDigest, IsRelayIn}}
+use Rattle.consensus_ranges.proofs.LineRanges.{IsSmall, digest_ranged}
 
 -- no section stands inside another
 pub nothing_inside : (flavour : Flavour) (around name : ConsensusSection) (keyword : Keyword)

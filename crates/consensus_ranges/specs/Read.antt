@@ -3,12 +3,10 @@
 use Rattle.std.specs.Prelude.{◌≡◌, ℕ, List, length, All, Ok}
 use Rattle.base64.specs.GeneralPurpose.{IsBytes}
 use Rattle.dirdoc_grammar.specs.Writing.{AreWritable}
-use Rattle.consensus_terms.specs.Signed.{in_order, signed}
-use Rattle.consensus_terms.specs.Texts.{facts_text}
+use Rattle.consensus_terms.specs.{Signed.{in_order, signed}, Texts.facts_text}
 use Rattle.consensus_terms.specs.declared.consensus.SignedConsensus.{SignedConsensus}
 use Rattle.consensus_doc.specs.Reading.{consensus_of, max_consensus}
-use Rattle.consensus_laws.specs.Again.{AreFactsInRange, IsSignatureInRange, signed_of}
-use Rattle.consensus_laws.specs.Items.{consensus_items}
+use Rattle.consensus_laws.specs.{Again.{AreFactsInRange, IsSignatureInRange, signed_of}, Items.consensus_items}
 
 -- The consensus says what can be read in its flavour: all that `IsInRange` asks for, but that its items may be written.
 pub record SaysInRange (c : SignedConsensus) : Type 0 where

@@ -1,9 +1,7 @@
 -- What a flavour says of a consensus that is computed (dir-spec, "Vote and consensus status document formats").
 use Rattle.std.specs.Prelude.{ℕ, nat_le, Option, Some, None, map, unwrap_or, if◌then◌else◌}
-use Rattle.consensus_terms.specs.declared.consensus.ConsensusFacts.{ConsensusFacts}
-use Rattle.consensus_terms.specs.declared.flavour.Flavour.{Flavour}
-use Rattle.consensus_terms.specs.declared.flavour.Flavour.TheVariants.{Ns, Microdesc}
-use Rattle.consensus_terms.specs.declared.router.Routerline.{Routerline}
+use Rattle.consensus_terms.specs.declared.{consensus.ConsensusFacts.ConsensusFacts, flavour.Flavour.Flavour}
+use Rattle.consensus_terms.specs.declared.{flavour.Flavour.TheVariants.{Ns, Microdesc}, router.Routerline.Routerline}
 
 -- 2038-01-01 00:00:00, in seconds since 1970-01-01 00:00:00 UTC
 abbrev pub common_moment : ℕ

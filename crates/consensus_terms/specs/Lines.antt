@@ -1,6 +1,5 @@
 -- The lines of a consensus (dir-spec, meta-format).
-use Rattle.std.specs.Prelude.{ℕ, List, [], ◌∷◌, ◌++◌, Option, Some, None, decimal}
-use Rattle.std.specs.List.{flat_map}
+use Rattle.std.specs.{Prelude.{ℕ, List, [], ◌∷◌, ◌++◌, Option, Some, None, decimal}, List.flat_map}
 use Rattle.item_terms.specs.Bytes.{space, line_feed}
 use Rattle.list_values.specs.Equations.{equals}
 

@@ -1,8 +1,7 @@
 -- The moments that a consensus speaks of.
 use Rattle.std.specs.Prelude.{◌≤◌, All}
 use Rattle.dir_bytes.specs.Causes.{last_moment}
-use Rattle.consensus_terms.specs.declared.consensus.ConsensusFacts.{ConsensusFacts}
-use Rattle.consensus_terms.specs.declared.router.Routerline.{Routerline}
+use Rattle.consensus_terms.specs.declared.{consensus.ConsensusFacts.ConsensusFacts, router.Routerline.Routerline}
 
 -- each moment of a consensus is one of the calendar
 pub record HasMoments (c : ConsensusFacts) : Type 0 where

@@ -3,11 +3,9 @@ use Rattle.std.specs.Prelude.{ℕ, Bool, true, false, List, [], ◌∷◌, ◌++
 use Rattle.std.specs.Prelude.{if◌then◌else◌}
 use Rattle.dir_bytes.specs.FieldTexts.{moment_text, address_text, base64_text}
 use Rattle.dir_values.specs.declared.digest.Digest2.{Digest2}
-use Rattle.consensus_terms.specs.declared.flavour.Flavour.{Flavour}
-use Rattle.consensus_terms.specs.declared.flavour.Flavour.TheVariants.{Ns, Microdesc}
-use Rattle.consensus_terms.specs.declared.router.Bandwidth.{Bandwidth}
-use Rattle.consensus_terms.specs.declared.router.Routerline.{Routerline}
-use Rattle.consensus_terms.specs.Lines.{line, rest_line, named_text}
+use Rattle.consensus_terms.specs.declared.flavour.Flavour.{Flavour, TheVariants.{Ns, Microdesc}}
+use Rattle.consensus_terms.specs.{declared.router.{Bandwidth.Bandwidth, Routerline.Routerline}, Lines.{line, rest_line}}
+use Rattle.consensus_terms.specs.Lines.{named_text}
 
 -- whether a flavour lists a relay: the microdesc flavour leaves out those without a microdescriptor
 abbrev pub is_listed : Flavour → Routerline → Bool

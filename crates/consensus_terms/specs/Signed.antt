@@ -1,16 +1,12 @@
 -- The signatures of a consensus (dir-spec, "Vote and consensus status document formats").
-use Rattle.std.specs.Prelude.{ℕ, List, [], ◌∷◌, ◌++◌, Some, codes}
-use Rattle.std.specs.Prelude.{if◌then◌else◌}
-use Rattle.std.specs.List.{fold, flat_map}
-use Rattle.std.specs.Str.{bytes_eq}
+use Rattle.std.specs.{Prelude.{ℕ, List, [], ◌∷◌, ◌++◌, Some, codes, if◌then◌else◌}, List.{fold, flat_map}, Str.bytes_eq}
 use Rattle.sha1.specs.Sha1.{sha1}
 use Rattle.sha2.specs.Sha256.{sha256}
 use Rattle.item_terms.specs.Bytes.{space}
 use Rattle.dir_bytes.specs.FieldTexts.{hex_text}
 use Rattle.dir_values.specs.Digests.{identity_below}
 use Rattle.dirdoc_grammar.specs.Writing.{NewItem, item_text}
-use Rattle.consensus_terms.specs.declared.signature.Digests.{Digests}
-use Rattle.consensus_terms.specs.declared.signature.SignatureLine.{SignatureLine}
+use Rattle.consensus_terms.specs.declared.signature.{Digests.Digests, SignatureLine.SignatureLine}
 
 -- ---- what is signed
 

@@ -1,24 +1,14 @@
 -- The text of a consensus without its signatures (dir-spec, "Vote and consensus status document formats").
-use Rattle.std.specs.Prelude.{ℕ, List, [], ◌∷◌, ◌++◌, Option, Some, None, codes, decimal}
-use Rattle.std.specs.List.{flat_map}
+use Rattle.std.specs.{Prelude.{ℕ, List, [], ◌∷◌, ◌++◌, Option, Some, None, codes, decimal}, List.flat_map}
 use Rattle.bw_weights.specs.declared.position_weights.Weights.{Weights}
 use Rattle.dir_bytes.specs.FieldTexts.{moment_text, hex_text, address_text}
-use Rattle.list_values.specs.Params.{params_text}
-use Rattle.list_values.specs.Protocols.{protocols_text}
-use Rattle.list_values.specs.VersionLists.{versions_text}
-use Rattle.value_groups.specs.Values.{padded_text}
-use Rattle.value_groups.specs.declared.value.SharedRandom.{SharedRandom}
-use Rattle.consensus_terms.specs.declared.consensus.Consensus.{Consensus}
-use Rattle.consensus_terms.specs.declared.consensus.ConsensusFacts.{ConsensusFacts}
-use Rattle.consensus_terms.specs.declared.consensus.ConsensusLists.{ConsensusLists}
-use Rattle.consensus_terms.specs.declared.consensus.SignedConsensus.{SignedConsensus}
-use Rattle.consensus_terms.specs.declared.consensus.SourceLine.{SourceLine}
-use Rattle.consensus_terms.specs.declared.flavour.Flavour.{Flavour}
-use Rattle.consensus_terms.specs.declared.flavour.Flavour.TheVariants.{Ns, Microdesc}
-use Rattle.consensus_terms.specs.Flavours.{facts_in}
-use Rattle.consensus_terms.specs.Lines.{line, list_line, rest_line}
-use Rattle.consensus_terms.specs.Routers.{listed_lines}
-use Rattle.consensus_terms.specs.Weights.{weight_words}
+use Rattle.list_values.specs.{Params.params_text, Protocols.protocols_text, VersionLists.versions_text}
+use Rattle.value_groups.specs.{Values.padded_text, declared.value.SharedRandom.SharedRandom}
+use Rattle.consensus_terms.specs.declared.consensus.{Consensus.Consensus, ConsensusFacts.ConsensusFacts}
+use Rattle.consensus_terms.specs.declared.consensus.{ConsensusLists.ConsensusLists, SignedConsensus.SignedConsensus}
+use Rattle.consensus_terms.specs.declared.{consensus.SourceLine.SourceLine, flavour.Flavour.{Flavour, TheVariants.Ns}}
+use Rattle.consensus_terms.specs.{declared.flavour.Flavour.TheVariants.Microdesc, Flavours.facts_in, Lines.line}
+use Rattle.consensus_terms.specs.{Lines.{list_line, rest_line}, Routers.listed_lines, Weights.weight_words}
 
 -- ---- the preamble
 

@@ -1,10 +1,7 @@
 -- Lines, one word after another.
 use Rattle.std.proofs.Common.{◌≡◌, ℕ, List, [], ◌∷◌, ◌++◌, length, true, false, append_assoc, refl, arith}
-use Rattle.std.specs.Prelude.{◌==◌}
+use Rattle.std.{proofs.lemmas.{Bool.{eqb-true, true≢false}, Grind.flat_map-append, List.append-nil}, specs.Prelude.◌==◌}
 use Rattle.std.specs.List.{flat_map}
-use Rattle.std.proofs.lemmas.Bool.{eqb-true, true≢false}
-use Rattle.std.proofs.lemmas.Grind.{flat_map-append}
-use Rattle.std.proofs.lemmas.List.{append-nil}
 use Rattle.item_terms.specs.Bytes.{space, line_feed}
 use Rattle.consensus_terms.specs.Lines.{behind_space, line, list_line}
 

@@ -1,19 +1,11 @@
 -- Signatures in their order.
 use Rattle.std.proofs.Common.{◌≡◌, ℕ, List, [], ◌∷◌, ◌++◌, append_assoc, refl, sym, ap, ◌∙◌}
-use Rattle.std.specs.Prelude.{if◌then◌else◌}
-use Rattle.std.specs.declared.cmp.Ordering.{Ordering}
-use Rattle.std.specs.declared.cmp.Ordering.TheVariants.{Less, Equal, Greater}
-use Rattle.std.specs.Cmp.{IsStrictWeakOrder}
-use Rattle.std.specs.List.{fold}
-use Rattle.std.specs.List.Sorted.{IsSortedBy, IsStableBy}
-use Rattle.std.specs.Ordering.{is_lt}
-use Rattle.std.proofs.lemmas.Cmp.{nat_list_cmp_total}
-use Rattle.std.proofs.lemmas.List.MinMax.{ranks_by}
+use Rattle.std.{proofs.lemmas.{Cmp.nat_list_cmp_total, List.MinMax.ranks_by}, specs.Prelude.if◌then◌else◌}
+use Rattle.std.specs.{declared.cmp.Ordering.{Ordering, TheVariants.{Less, Equal, Greater}}, Cmp.IsStrictWeakOrder}
+use Rattle.std.specs.{List.{fold, Sorted.{IsSortedBy, IsStableBy}}, Ordering.is_lt}
 use Rattle.dir_values.specs.Digests.{is_less}
-use Rattle.consensus_terms.specs.declared.signature.SignatureLine.{SignatureLine}
-use Rattle.consensus_terms.specs.Signed.{with_line, in_order}
-use Rattle.consensus_text.specs.Private.{stands_before}
-use Rattle.consensus_text.proofs.StableOrder.{inserted, sorted-inserted}
+use Rattle.consensus_terms.specs.{declared.signature.SignatureLine.SignatureLine, Signed.{with_line, in_order}}
+use Rattle.consensus_text.{specs.Private.stands_before, proofs.StableOrder.{inserted, sorted-inserted}}
 
 pub less_is_lt : (r : Ordering) → is_less r ≡ is_lt r
 less_is_lt Less = refl

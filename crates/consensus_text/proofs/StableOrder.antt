@@ -1,13 +1,9 @@
 -- A stable sort gives what one insertion after another gives.
-use Rattle.std.proofs.Common.{◌≡◌, ℕ, suc, ◌≤◌, ◌<◌, Bool, true, false, cond, List, [], ◌∷◌, ◌++◌, length, get_or, drop, refl, sym, ap, ◌∙◌, arith, append_assoc}
-use Rattle.std.specs.Prelude.{All, not, ◌&&◌, filter, if◌then◌else◌}
-use Rattle.std.specs.List.{fold}
-use Rattle.std.specs.List.Sorted.{IsSortedBy, IsStableBy, ties}
-use Rattle.std.specs.Cmp.{IsStrictWeakOrder}
-use Rattle.std.proofs.lemmas.Bool.{true≢false}
-use Rattle.std.proofs.lemmas.List.{append-nil}
-use Rattle.std.proofs.lemmas.List.Elements.{All-nil, All-cons, All-head, All-tail}
-use Rattle.std.proofs.lemmas.List.Sorted.{sorted_far}
+use Rattle.std.proofs.Common.{◌≡◌, ℕ, suc, ◌≤◌, ◌<◌, Bool, true, false, cond, List, [], ◌∷◌, ◌++◌, length, get_or, drop}
+use Rattle.std.proofs.{Common.{refl, sym, ap, ◌∙◌, arith, append_assoc}, lemmas.{Bool.true≢false, List.append-nil}}
+use Rattle.std.proofs.lemmas.List.{Elements.{All-nil, All-cons, All-head, All-tail}, Sorted.sorted_far}
+use Rattle.std.specs.{Prelude.{All, not, ◌&&◌, filter, if◌then◌else◌}, List.{fold, Sorted.{IsSortedBy, IsStableBy}}}
+use Rattle.std.specs.{List.Sorted.ties, Cmp.IsStrictWeakOrder}
 
 -- ---- lists with an element that may be left out
 

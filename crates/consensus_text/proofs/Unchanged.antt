@@ -1,7 +1,6 @@
 -- Facts of which nothing is said otherwise.
 use Rattle.std.proofs.Common.{◌≡◌, List, [], ◌∷◌, map, refl, ap, None}
-use Rattle.consensus_terms.specs.Flavours.{facts_at, router_at}
-use Rattle.consensus_terms.specs.declared.consensus.ConsensusFacts.{ConsensusFacts}
+use Rattle.consensus_terms.specs.{Flavours.{facts_at, router_at}, declared.consensus.ConsensusFacts.ConsensusFacts}
 use Rattle.consensus_terms.specs.declared.router.Routerline.{Routerline}
 
 same_routers : (routers : List Routerline) → map (router_at None) routers ≡ routers

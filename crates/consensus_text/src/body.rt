@@ -2,8 +2,7 @@
 ghost use Rattle.std.specs.Prelude.{◌≡◌, ◌≤◌, IfSome};
 ghost use Rattle.dir_bytes.specs.Causes.{last_moment};
 ghost use Rattle.text_page.specs.Pages.{with_text};
-ghost use Rattle.consensus_terms.specs.Flavours.{facts_at};
-ghost use Rattle.consensus_terms.specs.Moments.{HasMoments};
+ghost use Rattle.consensus_terms.specs.{Flavours.facts_at, Moments.HasMoments};
 ghost use Rattle.consensus_terms.specs.Texts as texts;
 
 use crate::preamble::put_preamble;

@@ -1,7 +1,6 @@
 // The canonical text of a consensus that was read.
 ghost use Rattle.std.specs.Prelude.{◌≡◌, IfOk};
-ghost use Rattle.consensus_terms.specs.Moments.{HasMoments};
-ghost use Rattle.consensus_terms.specs.Signed.{signed};
+ghost use Rattle.consensus_terms.specs.{Moments.HasMoments, Signed.signed};
 ghost use Rattle.consensus_terms.specs.Texts as texts;
 ghost use Rattle.text_page.specs.Pages.{counted_length};
 

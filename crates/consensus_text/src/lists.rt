@@ -1,8 +1,6 @@
 // Lines of lists, each of which stands where the list is not empty.
 ghost use Rattle.std.specs.Prelude.{◌≡◌};
-ghost use Rattle.list_values.specs.Params.{params_text};
-ghost use Rattle.list_values.specs.Protocols.{protocols_text};
-ghost use Rattle.list_values.specs.VersionLists.{versions_text};
+ghost use Rattle.list_values.specs.{Params.params_text, Protocols.protocols_text, VersionLists.versions_text};
 ghost use Rattle.text_page.specs.Pages.{with_text};
 ghost use Rattle.consensus_terms.specs.Lines.{list_line};
 

@@ -1,9 +1,7 @@
 // The lines of a consensus before its authorities and relays.
-ghost use Rattle.std.specs.Prelude.{◌≡◌};
-ghost use Rattle.std.specs.List.{flat_map};
+ghost use Rattle.std.specs.{Prelude.◌≡◌, List.flat_map};
 ghost use Rattle.text_page.specs.Pages.{with_text};
-ghost use Rattle.consensus_terms.specs.Lines.{behind_space, line};
-ghost use Rattle.consensus_terms.specs.Moments.{HasMoments};
+ghost use Rattle.consensus_terms.specs.{Lines.{behind_space, line}, Moments.HasMoments};
 ghost use Rattle.consensus_terms.specs.Texts as texts;
 
 use crate::lists::{put_params_line, put_protocols_line, put_versions_line};

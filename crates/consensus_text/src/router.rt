@@ -1,10 +1,7 @@
 // The lines of relays.
-ghost use Rattle.std.specs.Prelude.{◌≡◌, ◌≤◌, All, IfSome};
-ghost use Rattle.std.specs.List.{flat_map};
-ghost use Rattle.dir_bytes.specs.Causes.{last_moment};
-ghost use Rattle.dir_bytes.specs.FieldTexts.{moment_text};
-ghost use Rattle.consensus_terms.specs.Flavours.{moment_of_all, router_at};
-ghost use Rattle.consensus_terms.specs.Lines.{behind_space};
+ghost use Rattle.std.specs.{Prelude.{◌≡◌, ◌≤◌, All, IfSome}, List.flat_map};
+ghost use Rattle.dir_bytes.specs.{Causes.last_moment, FieldTexts.moment_text};
+ghost use Rattle.consensus_terms.specs.{Flavours.{moment_of_all, router_at}, Lines.behind_space};
 ghost use Rattle.consensus_terms.specs.Routers as relays;
 ghost use Rattle.text_page.specs.Pages.{with_text};
 

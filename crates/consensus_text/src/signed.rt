@@ -1,6 +1,5 @@
 // The signatures of a consensus: what they are over, and the text with them.
-ghost use Rattle.std.specs.Prelude.{◌≡◌, ◌++◌, IfOk, OnOk, OnErr, take, vec_len};
-ghost use Rattle.std.specs.Ordering.{is_lt};
+ghost use Rattle.std.specs.{Prelude.{◌≡◌, ◌++◌, IfOk, OnOk, OnErr, take, vec_len}, Ordering.is_lt};
 ghost use Rattle.consensus_terms.specs.Signed as signed;
 ghost use Rattle.consensus_text.specs.Private as own;
 

@@ -1,6 +1,5 @@
 // The lines of the authorities whose votes count.
-ghost use Rattle.std.specs.Prelude.{◌≡◌};
-ghost use Rattle.std.specs.List.{flat_map};
+ghost use Rattle.std.specs.{Prelude.◌≡◌, List.flat_map};
 ghost use Rattle.text_page.specs.Pages.{with_text};
 ghost use Rattle.consensus_terms.specs.Lines.{line};
 ghost use Rattle.consensus_terms.specs.Texts as texts;

@@ -1,9 +1,8 @@
 // The text of a consensus without its signatures, and how long it is.
 ghost use Rattle.std.specs.Prelude.{◌≡◌, ◌+◌, ◌≤◌, ◌++◌, IfOk, length, vec_len, vec_capacity};
 ghost use Rattle.text_page.specs.Pages.{counted_length};
-ghost use Rattle.consensus_terms.specs.Moments.{HasMoments};
+ghost use Rattle.consensus_terms.specs.{Moments.HasMoments, declared.flavour.Flavour.TheVariants.{Ns, Microdesc}};
 ghost use Rattle.consensus_terms.specs.Texts as texts;
-ghost use Rattle.consensus_terms.specs.declared.flavour.Flavour.TheVariants.{Ns, Microdesc};
 
 use crate::body::put_unsigned;
 use consensus_terms::{Consensus, Flavour};

@@ -1,6 +1,5 @@
 // The line of the weights of bandwidth.
-ghost use Rattle.std.specs.Prelude.{◌≡◌};
-ghost use Rattle.std.specs.List.{flat_map};
+ghost use Rattle.std.specs.{Prelude.◌≡◌, List.flat_map};
 ghost use Rattle.text_page.specs.Pages.{with_text};
 ghost use Rattle.consensus_terms.specs.Lines.{behind_space, line};
 ghost use Rattle.consensus_terms.specs.Weights as words;

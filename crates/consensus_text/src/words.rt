@@ -1,9 +1,6 @@
 // Words behind single spaces, and lines of them, on a page.
-ghost use Rattle.std.specs.Prelude.{◌≡◌, ◌≤◌, ◌∷◌, ◌++◌, [], codes};
-ghost use Rattle.std.specs.Fmt.{decimal};
-ghost use Rattle.std.specs.List.{flat_map};
-ghost use Rattle.dir_bytes.specs.Causes.{last_moment};
-ghost use Rattle.dir_bytes.specs.FieldTexts.{moment_text, hex_text, base64_text, address_text};
+ghost use Rattle.std.specs.{Prelude.{◌≡◌, ◌≤◌, ◌∷◌, ◌++◌, [], codes}, Fmt.decimal, List.flat_map};
+ghost use Rattle.dir_bytes.specs.{Causes.last_moment, FieldTexts.{moment_text, hex_text, base64_text, address_text}};
 ghost use Rattle.consensus_terms.specs.Lines.{behind_space, line, named_text, rest_words, rest_line};
 ghost use Rattle.text_page.specs.Pages.{with_text};
 

@@ -1,15 +1,10 @@
 -- The same of numbers, natural and whole ones.
 use Rattle.std.proofs.Common.{◌≡◌, ℕ, ◌<◌, Bool, true, false, cond, List, length, get_or, refl, sym, ap, ◌∙◌, arith}
-use Rattle.std.specs.Prelude.{nat_le, nat_lt, ◌-◌, ◌/◌, ◌==◌, ◌&&◌, unwrap_or, ℤ}
-use Rattle.std.specs.List.{count_by, find}
-use Rattle.std.specs.List.Sorted.{IsPermutation, IsSorted}
-use Rattle.std.specs.Ordering.{is_lt, is_le, nat_cmp, int_cmp}
-use Rattle.std.specs.declared.cmp.Ordering.TheVariants.{Less, Equal, Greater}
-use Rattle.std.proofs.lemmas.Bool.{le-leb, lt-leb}
-use Rattle.std.proofs.lemmas.Cmp.{nat_cmp_total, int_cmp_total, ranked, int_ranked, by_ranked}
-use Rattle.std.proofs.lemmas.List.Sorted.{length_permutation}
-use Rattle.count_terms.specs.Counts.{stands_at, member_at, middle, low_median}
-use Rattle.count_terms.specs.Medians.{stands_by, low_median_by}
+use Rattle.std.proofs.lemmas.{Bool.{le-leb, lt-leb}, Cmp.{nat_cmp_total, int_cmp_total, ranked, int_ranked, by_ranked}}
+use Rattle.std.{proofs.lemmas.List.Sorted.length_permutation, specs.Prelude.{nat_le, nat_lt, ◌-◌, ◌/◌, ◌==◌, ◌&&◌}}
+use Rattle.std.specs.{Prelude.{unwrap_or, ℤ}, List.{count_by, find, Sorted.{IsPermutation, IsSorted}}, Ordering.is_lt}
+use Rattle.std.specs.{Ordering.{is_le, nat_cmp, int_cmp}, declared.cmp.Ordering.TheVariants.{Less, Equal, Greater}}
+use Rattle.count_terms.specs.{Counts.{stands_at, member_at, middle, low_median}, Medians.{stands_by, low_median_by}}
 use Rattle.count_terms.proofs.Ordered.{member_there_by}
 
 nat_ties : (a b : ℕ) → nat_cmp a b ≡ Equal → a ≡ b

@@ -1,19 +1,12 @@
 -- The member at a place is the one that stands there once the list is sorted, whatever the order.
-use Rattle.std.proofs.Common.{◌≡◌, ℕ, ◌+◌, ◌<◌, ◌≤◌, Bool, true, false, cond, List, [], ◌∷◌, length, get_or, refl, sym, ap, ◌∙◌, arith, subst, Some}
-use Rattle.std.specs.Prelude.{nat_le, nat_lt, ◌&&◌, unwrap_or}
-use Rattle.std.specs.List.{count_by, find, list_any}
-use Rattle.std.specs.List.Sorted.{IsPermutation, IsSorted}
-use Rattle.std.specs.Cmp.{IsTotalOrder}
-use Rattle.std.specs.Ordering.{ordering_reverse, is_lt, is_le}
-use Rattle.std.specs.declared.cmp.Ordering.{Ordering}
-use Rattle.std.specs.declared.cmp.Ordering.TheVariants.{Less, Equal, Greater}
-use Rattle.std.proofs.lemmas.Bool.{and_from, and_parts, le-leb, lt-ltb, leb-true, ltb-true}
-use Rattle.std.proofs.lemmas.Cmp.{tied_back}
-use Rattle.std.proofs.lemmas.List.{get_or_default}
-use Rattle.std.proofs.lemmas.List.Folds.{list_any_at}
-use Rattle.std.proofs.lemmas.List.Sorted.{list_any-IsPermutation, sorted_far, ranks_by}
-use Rattle.count_terms.specs.Medians.{stands_by}
-use Rattle.count_terms.proofs.Passing.{count-permutation, count_low, count_high}
+use Rattle.std.proofs.Common.{◌≡◌, ℕ, ◌+◌, ◌<◌, ◌≤◌, Bool, true, false, cond, List, [], ◌∷◌, length, get_or, refl, sym}
+use Rattle.std.proofs.{Common.{ap, ◌∙◌, arith, subst, Some}, lemmas.Bool.{and_from, and_parts, le-leb, lt-ltb}}
+use Rattle.std.proofs.lemmas.{Bool.{leb-true, ltb-true}, Cmp.tied_back, List.{get_or_default, Folds.list_any_at}}
+use Rattle.std.{proofs.lemmas.List.Sorted.{list_any-IsPermutation, sorted_far, ranks_by}, specs.Prelude.nat_le}
+use Rattle.std.specs.{Prelude.{nat_lt, ◌&&◌, unwrap_or}, List.{count_by, find, list_any, Sorted.IsPermutation}}
+use Rattle.std.specs.{List.Sorted.IsSorted, Cmp.IsTotalOrder, Ordering.{ordering_reverse, is_lt, is_le}}
+use Rattle.std.specs.declared.cmp.Ordering.{Ordering, TheVariants.{Less, Equal, Greater}}
+use Rattle.count_terms.{specs.Medians.stands_by, proofs.Passing.{count-permutation, count_low, count_high}}
 
 -- what is found is the one value that passes
 found : {A : Type 0} (p : A → Bool) (none : A) (xs : List A) (y : A) → ((x : A) → p x ≡ true → x ≡ y) → list_any p xs ≡ true

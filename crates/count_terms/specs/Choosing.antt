@@ -1,8 +1,6 @@
 -- The value that stands most often (dir-spec, "Computing a consensus from a set of votes").
 use Rattle.std.specs.Prelude.{ℕ, nat_eq, nat_lt, Bool, not, ◌&&◌, ◌||◌, List, count_by, Option}
-use Rattle.std.specs.declared.cmp.Ordering.{Ordering}
-use Rattle.std.specs.Cmp.Lexicographic.{slice_cmp}
-use Rattle.std.specs.Ordering.{nat_cmp, is_eq, is_gt}
+use Rattle.std.specs.{declared.cmp.Ordering.Ordering, Cmp.Lexicographic.slice_cmp, Ordering.{nat_cmp, is_eq, is_gt}}
 use Rattle.std.specs.List.{find, list_all}
 
 -- the order of texts by their bytes

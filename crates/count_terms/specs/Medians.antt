@@ -1,8 +1,6 @@
 -- Low medians by an order (dir-spec, "Computing a consensus from a set of votes").
-use Rattle.std.specs.Prelude.{ℕ, nat_lt, nat_le, Bool, ◌&&◌, List, count_by, unwrap_or}
-use Rattle.std.specs.List.{find}
-use Rattle.std.specs.declared.cmp.Ordering.{Ordering}
-use Rattle.std.specs.Ordering.{is_lt, is_le}
+use Rattle.std.specs.{Prelude.{ℕ, nat_lt, nat_le, Bool, ◌&&◌, List, count_by, unwrap_or}, List.find}
+use Rattle.std.specs.{declared.cmp.Ordering.Ordering, Ordering.{is_lt, is_le}}
 use Rattle.count_terms.specs.Counts.{middle}
 
 -- whether a value stands at a place, from 0: at most so many members are below it, and more are at or below it

@@ -1,12 +1,9 @@
 -- The command line is one that clap reads exactly.
-use Rattle.std.proofs.Common.{◌≡◌, ◌||◌, false, true, refl, ap, ap₂, ◌∙◌, Result, Ok, Err}
-use Rattle.std.specs.Prelude.{IfOk}
-use Rattle.clap.specs.Words.{AddsArg, AddsSubcommand, App, Rule, app_of, is_simple, is_simple_and_free, rule_of, with_rule, with_subcommand}
-use Rattle.clap.specs.declared.builder.arg.Arg.{Arg}
-use Rattle.clap.specs.declared.builder.command.Command.{Command}
+use Rattle.std.{proofs.Common.{◌≡◌, ◌||◌, false, true, refl, ap, ap₂, ◌∙◌, Result, Ok, Err}, specs.Prelude.IfOk}
+use Rattle.clap.specs.Words.{AddsArg, AddsSubcommand, App, Rule, app_of, is_simple, is_simple_and_free, rule_of}
+use Rattle.clap.specs.{Words.{with_rule, with_subcommand}, declared.builder.{arg.Arg.Arg, command.Command.Command}}
 use Rattle.clap.proofs.OnLiterals.{clap_on_literals}
-use Rattle.daemon_words.specs.CommandLine.{command_line}
-use Rattle.daemon_words.specs.Lending.{AddsCommand, AddsRule, Reads}
+use Rattle.daemon_words.specs.{CommandLine.command_line, Lending.{AddsCommand, AddsRule, Reads}}
 
 pub simple : is_simple command_line ≡ true
 unfolding clap_on_literals

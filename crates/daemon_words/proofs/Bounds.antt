@@ -1,26 +1,18 @@
 -- The numbers of a rehearsal that words give are within their bounds.
 use Rattle.std.proofs.Common.{◌≡◌, ℕ, Bool, true, false, List, Option, Some, None, refl, arith}
-use Rattle.std.specs.Prelude.{IfSome, codes, if◌then◌else◌, option_map}
+use Rattle.std.{proofs.lemmas.Bool.Decides.nat_tests, specs.Prelude.{IfSome, codes, if◌then◌else◌, option_map}}
 use Rattle.std.specs.Str.{bytes_eq}
-use Rattle.std.proofs.lemmas.Bool.Decides.{nat_tests}
 use Rattle.clap.specs.Words.{Row, Text, first_of}
 use Rattle.dir_bytes.specs.Fields.{number}
 use Rattle.dir_values.specs.declared.digest.Fingerprint.{Fingerprint}
 use Rattle.count_terms.specs.declared.newest.Newest.{Newest}
-use Rattle.daemon_words.specs.Methods.{newest_in}
-use Rattle.daemon_words.specs.Rehearsals.{IsWithinBounds, is_within, numbers_of, rehearse_in, rehearse_with}
-use Rattle.daemon_words.specs.Reports.{report_in}
-use Rattle.daemon_words.specs.Serving.{serve_in}
-use Rattle.daemon_words.specs.Words.{KeepsBounds, command_named, compute_with, command_to_compute, flavours_in, measures_in}
+use Rattle.daemon_words.specs.{Methods.newest_in, Rehearsals.{IsWithinBounds, is_within, numbers_of, rehearse_in}}
+use Rattle.daemon_words.specs.{Rehearsals.rehearse_with, Reports.report_in, Serving.serve_in, Words.KeepsBounds}
+use Rattle.daemon_words.specs.Words.{command_named, compute_with, command_to_compute, flavours_in, measures_in}
 use Rattle.daemon_words.specs.Words.{make_vote_in, serve_with, command_to_serve, subject_in, command_to_make_vote}
-use Rattle.daemon_words.specs.declared.command.Measures.{Measures}
-use Rattle.daemon_words.specs.declared.command.Command.{Command}
+use Rattle.daemon_words.specs.declared.command.{Measures.Measures, Command.Command, Flavours.Flavours, Subject.Subject}
+use Rattle.daemon_words.specs.declared.{rehearsal.Rehearse.Rehearse, report.Report.Report, serving.Serve.Serve}
 use Rattle.daemon_words.specs.declared.command.Command.TheVariants as command
-use Rattle.daemon_words.specs.declared.command.Flavours.{Flavours}
-use Rattle.daemon_words.specs.declared.command.Subject.{Subject}
-use Rattle.daemon_words.specs.declared.rehearsal.Rehearse.{Rehearse}
-use Rattle.daemon_words.specs.declared.report.Report.{Report}
-use Rattle.daemon_words.specs.declared.serving.Serve.{Serve}
 
 -- what holds either way holds of a choice
 either : (b : Bool) {A : Type 0} (P : A → Type 0) (first second : A) → P first → P second

@@ -1,15 +1,10 @@
 -- A text that is cut at its commas, and the members that its parts name.
-use Rattle.std.proofs.Common.{◌≡◌, ℕ, suc, ◌+◌, true, false, List, [], ◌∷◌, ◌++◌, Option, Some, None, length, take, drop, refl, sym, ap, ◌∙◌, subst, arith, append_assoc}
-use Rattle.std.specs.Prelude.{if◌then◌else◌, not}
-use Rattle.std.specs.Option.{option_map}
-use Rattle.std.specs.List.{slice_split, onto_first}
-use Rattle.dir_values.specs.declared.digest.Fingerprint.{Fingerprint}
-use Rattle.std.specs.Prelude.{Ok, Err}
-use Rattle.dir_values.specs.Digests.{fingerprint}
-use Rattle.dir_values.specs.Refusals.{or_bad_value}
-use Rattle.dir_values.specs.declared.refusal.ValueRefusal.{ValueRefusal}
-use Rattle.daemon_words.specs.Values.{before, identities, is_comma, members}
-use Rattle.daemon_words.specs.Lending.{word_len}
+use Rattle.std.proofs.Common.{◌≡◌, ℕ, suc, ◌+◌, true, false, List, [], ◌∷◌, ◌++◌, Option, Some, None, length, take}
+use Rattle.std.{proofs.Common.{drop, refl, sym, ap, ◌∙◌, subst, arith, append_assoc}, specs.Prelude.if◌then◌else◌}
+use Rattle.std.specs.{Prelude.{not, Ok, Err}, Option.option_map, List.{slice_split, onto_first}}
+use Rattle.dir_values.specs.declared.{digest.Fingerprint.Fingerprint, refusal.ValueRefusal.ValueRefusal}
+use Rattle.dir_values.specs.{Digests.fingerprint, Refusals.or_bad_value}
+use Rattle.daemon_words.specs.{Values.{before, identities, is_comma, members}, Lending.word_len}
 
 -- a text without a comma is one part
 split_end : (text : List ℕ) → drop (word_len text) text ≡ [] → slice_split is_comma text ≡ take (word_len text) text ∷ []

@@ -1,15 +1,10 @@
 -- The command that clap names, and its refusals.
-use Rattle.std.proofs.Common.{◌≡◌, ℕ, List, [], ◌∷◌, Option, Some, None, refl, sym, ◌∙◌, inl, inr}
-use Rattle.std.specs.Prelude.{Box, option_map}
-use Rattle.std.specs.Box.{box_value}
-use Rattle.clap.specs.Kinds.{HasKind, Kinds}
-use Rattle.clap.specs.Words.{Row, first_of, first_value, kind_of, rows_of, subcommand_rows}
-use Rattle.clap.specs.declared.parser.matches.Found.{Found}
-use Rattle.clap.proofs.WalkLemmas.{first_value-rows}
-use Rattle.clap.specs.declared.error.Error.{Error}
+use Rattle.std.{proofs.Common.{◌≡◌, ℕ, List, [], ◌∷◌, Option, Some, None, refl, sym, ◌∙◌, inl, inr}, specs.Prelude.Box}
+use Rattle.std.specs.{Prelude.option_map, Box.box_value}
+use Rattle.clap.specs.{Kinds.{HasKind, Kinds}, Words.{Row, first_of, first_value, kind_of, rows_of, subcommand_rows}}
+use Rattle.clap.specs.declared.parser.matches.{Found.Found, SubCommand.SubCommand, ArgMatches.TheViews.out-SubCommand}
+use Rattle.clap.{specs.declared.error.Error.Error, proofs.WalkLemmas.first_value-rows}
 use Rattle.clap.specs.declared.error.kind.ErrorKind.TheVariants as error_kind
-use Rattle.clap.specs.declared.parser.matches.SubCommand.{SubCommand}
-use Rattle.clap.specs.declared.parser.matches.ArgMatches.TheViews.{out-SubCommand}
 use Rattle.daemon_words.specs.Words.{command_named, command_read}
 
 -- an error other than want of memory comes only where something is wrong with the words

@@ -1,8 +1,7 @@
 -- The command line, as clap reads it.
-use Rattle.std.specs.Prelude.{true, List, ℕ, String, string_bytes, map, Option, Some, codes}
-use Rattle.std.specs.Global.{Global}
-use Rattle.clap.specs.Words.{App, Kinds, Row, Rule, Text, fault_of, new_app, new_rule, subcommand_of, with_rule, with_subcommand}
-use Rattle.clap.specs.declared.builder.action.ArgAction.TheVariants.{Set, SetTrue}
+use Rattle.std.specs.{Prelude.{true, List, ℕ, String, string_bytes, map, Option, Some, codes}, Global.Global}
+use Rattle.clap.specs.Words.{App, Kinds, Row, Rule, Text, fault_of, new_app, new_rule, subcommand_of, with_rule}
+use Rattle.clap.specs.{Words.with_subcommand, declared.builder.action.ArgAction.TheVariants.{Set, SetTrue}}
 
 -- an option that must stand once, as `--name value` or `--name=value`
 abbrev pub needed_option : List ℕ → Rule

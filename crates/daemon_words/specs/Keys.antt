@@ -1,6 +1,5 @@
 -- The word in front of a command: which verifiers the program asks.
-use Rattle.std.specs.Prelude.{ℕ, Bool, List, [], ◌∷◌, String, string_bytes, codes, if◌then◌else◌}
-use Rattle.std.specs.Str.{bytes_eq}
+use Rattle.std.specs.{Prelude.{ℕ, Bool, List, [], ◌∷◌, String, string_bytes, codes, if◌then◌else◌}, Str.bytes_eq}
 use Rattle.std.specs.Global.{Global}
 use Rattle.daemon_words.specs.declared.keys.Keys.{Keys}
 use Rattle.daemon_words.specs.declared.keys.Keys.TheVariants as keys

@@ -1,16 +1,11 @@
 -- What the private functions of this crate say.
-use Rattle.std.specs.Prelude.{◌≡◌, ℕ, List, [], String, IfOk, false}
-use Rattle.std.specs.declared.option.Option.{Option}
-use Rattle.std.specs.declared.result.Result.{Result}
-use Rattle.std.specs.declared.option.Option.TheVariants.{Some, None}
-use Rattle.std.specs.List.{position_or_len}
+use Rattle.std.specs.{Prelude.{◌≡◌, ℕ, List, [], String, IfOk, false}, declared.option.Option.Option}
+use Rattle.std.specs.{declared.{option.Option.TheVariants.{Some, None}, result.Result.Result}, List.position_or_len}
 use Rattle.std.specs.Global.{Global}
 use Rattle.clap.specs.Words.{App, Rule, app_of, subcommand_rows_of, with_rule, with_subcommand}
-use Rattle.clap.specs.declared.builder.command.Command.{Command}
-use Rattle.clap.specs.declared.builder.command.Command.TheViews.{out-Command}
+use Rattle.clap.specs.declared.builder.command.Command.{Command, TheViews.out-Command}
 use Rattle.clap.specs.declared.parser.matches.ArgMatches.{ArgMatches}
-use Rattle.daemon_words.specs.CommandLine.{faults, command_in}
-use Rattle.daemon_words.specs.Values.{is_comma}
+use Rattle.daemon_words.specs.{CommandLine.{faults, command_in}, Values.is_comma}
 
 -- what was read of words that are of the command line, or nothing of others
 abbrev pub Matches : List (String Global) → Option ArgMatches → Type 0

@@ -1,6 +1,5 @@
 -- The newest consensus method that is known, among the options.
-use Rattle.std.specs.Prelude.{ℕ, List, Option, Some, None, codes, if◌then◌else◌}
-use Rattle.std.specs.Str.{bytes_eq}
+use Rattle.std.specs.{Prelude.{ℕ, List, Option, Some, None, codes, if◌then◌else◌}, Str.bytes_eq}
 use Rattle.clap.specs.Words.{Row, first_of}
 use Rattle.count_terms.specs.declared.newest.Newest.{Newest}
 use Rattle.count_terms.specs.declared.newest.Newest.TheVariants as newest

@@ -2,8 +2,7 @@
 use Rattle.std.specs.Prelude.{ℕ, List, Option, Some, None, codes}
 use Rattle.clap.specs.Words.{Row, first_of}
 use Rattle.dir_values.specs.declared.digest.Fingerprint.{Fingerprint}
-use Rattle.daemon_words.specs.Values.{roster, moment}
-use Rattle.daemon_words.specs.declared.report.Report.{Report}
+use Rattle.daemon_words.specs.{Values.{roster, moment}, declared.report.Report.Report}
 
 -- the report of a roster at a moment, where both were read
 abbrev pub roster_report : Option (List Fingerprint) → Option ℕ → Option Report

@@ -2,8 +2,7 @@
 use Rattle.std.specs.Prelude.{ℕ, ◌==◌, Bool, false, not, List, [], ◌∷◌, Option, Some, None, codes, if◌then◌else◌}
 use Rattle.clap.specs.Words.{Row, first_of}
 use Rattle.count_terms.specs.declared.newest.Newest.{Newest}
-use Rattle.daemon_words.specs.declared.command.Measures.{Measures}
-use Rattle.daemon_words.specs.declared.serving.Serve.{Serve}
+use Rattle.daemon_words.specs.declared.{command.Measures.Measures, serving.Serve.Serve}
 
 -- whether a text is an address: it is not empty, and its first byte is no `-`
 abbrev pub is_address : List ℕ → Bool

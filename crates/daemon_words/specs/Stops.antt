@@ -1,11 +1,8 @@
 -- Why a call of a command gives nothing, and what a command answers.
-use Rattle.std.specs.Prelude.{◌≡◌, ℕ, List, Result, Ok, Err}
-use Rattle.std.specs.Global.{Vec}
+use Rattle.std.specs.{Prelude.{◌≡◌, ℕ, List, Result, Ok, Err}, Global.Vec}
 use Rattle.frame_terms.specs.declared.fault.ReadRefusal.{ReadRefusal}
 use Rattle.frame_terms.specs.declared.fault.ReadRefusal.TheVariants as read
-use Rattle.daemon_words.specs.declared.command.Kind.{Kind}
-use Rattle.daemon_words.specs.declared.stop.DocumentRefusal.{DocumentRefusal}
-use Rattle.daemon_words.specs.declared.stop.Stop.{Stop}
+use Rattle.daemon_words.specs.declared.{command.Kind.Kind, stop.{DocumentRefusal.DocumentRefusal, Stop.Stop}}
 use Rattle.daemon_words.specs.declared.stop.Stop.TheVariants as stop
 
 -- a refusal of documents of a kind

@@ -1,11 +1,8 @@
 -- The values of the options.
-use Rattle.std.specs.Prelude.{ℕ, ◌==◌, ◌&&◌, Bool, List, [], ◌∷◌, length, slice_index, slice_range, Option, Some, None, option_and_then, if◌then◌else◌}
-use Rattle.std.specs.List.{slice_split}
-use Rattle.std.specs.Result.{result_ok}
+use Rattle.std.specs.Prelude.{ℕ, ◌==◌, ◌&&◌, Bool, List, [], ◌∷◌, length, slice_index, slice_range, Option, Some, None}
+use Rattle.std.specs.{Prelude.{option_and_then, if◌then◌else◌}, List.slice_split, Result.result_ok}
 use Rattle.dir_bytes.specs.Fields as fields
-use Rattle.dir_values.specs.Digests.{fingerprint}
-use Rattle.dir_values.specs.Rosters.{roster_of}
-use Rattle.dir_values.specs.declared.digest.Fingerprint.{Fingerprint}
+use Rattle.dir_values.specs.{Digests.fingerprint, Rosters.roster_of, declared.digest.Fingerprint.Fingerprint}
 
 abbrev pub is_comma : ℕ → Bool
 is_comma byte = byte == 44

@@ -1,25 +1,17 @@
 -- The grammar of the words.
-use Rattle.std.specs.Prelude.{ℕ, List, [], String, Option, Some, None, option_and_then, option_map, codes, if◌then◌else◌}
-use Rattle.std.specs.Str.{bytes_eq}
-use Rattle.std.specs.Global.{Global}
+use Rattle.std.specs.Prelude.{ℕ, List, [], String, Option, Some, None, option_and_then, option_map, codes}
+use Rattle.std.specs.{Prelude.if◌then◌else◌, Str.bytes_eq, Global.Global}
 use Rattle.clap.specs.Words.{Kinds, Row, Text, first_of}
 use Rattle.dir_values.specs.declared.digest.Fingerprint.{Fingerprint}
 use Rattle.count_terms.specs.declared.newest.Newest.{Newest}
-use Rattle.daemon_words.specs.CommandLine.{faults, command_in}
-use Rattle.daemon_words.specs.Methods.{newest_in}
-use Rattle.daemon_words.specs.Rehearsals.{IsWithinBounds, rehearse_in}
-use Rattle.daemon_words.specs.Reports.{report_in}
-use Rattle.daemon_words.specs.Serving.{serve_in}
-use Rattle.daemon_words.specs.Values.{roster, moment}
-use Rattle.daemon_words.specs.declared.command.Command.{Command}
-use Rattle.daemon_words.specs.declared.command.Command.TheVariants as command
-use Rattle.daemon_words.specs.declared.command.Flavours.{Flavours}
-use Rattle.daemon_words.specs.declared.command.Flavours.TheVariants as flavours
-use Rattle.daemon_words.specs.declared.command.Kind.{Kind}
-use Rattle.daemon_words.specs.declared.command.Kind.TheVariants as kind
-use Rattle.daemon_words.specs.declared.command.Measures.{Measures}
-use Rattle.daemon_words.specs.declared.command.Measures.TheVariants as measures
+use Rattle.daemon_words.specs.{CommandLine.{faults, command_in}, Methods.newest_in, Rehearsals.IsWithinBounds}
+use Rattle.daemon_words.specs.{Rehearsals.rehearse_in, Reports.report_in, Serving.serve_in, Values.{roster, moment}}
+use Rattle.daemon_words.specs.declared.command.{Command.Command, Flavours.Flavours, Kind.Kind, Measures.Measures}
 use Rattle.daemon_words.specs.declared.command.Subject.{Subject}
+use Rattle.daemon_words.specs.declared.command.Command.TheVariants as command
+use Rattle.daemon_words.specs.declared.command.Flavours.TheVariants as flavours
+use Rattle.daemon_words.specs.declared.command.Kind.TheVariants as kind
+use Rattle.daemon_words.specs.declared.command.Measures.TheVariants as measures
 use Rattle.daemon_words.specs.declared.command.Subject.TheVariants as subject
 
 -- the flavours that a word names

@@ -1,6 +1,5 @@
 // The values of the options.
-ghost use Rattle.std.specs.Prelude.{◌≡◌, ◌≤◌, IfOk, length};
-ghost use Rattle.std.specs.Option.{option_map};
+ghost use Rattle.std.specs.{Prelude.{◌≡◌, ◌≤◌, IfOk, length}, Option.option_map};
 ghost use Rattle.clap.specs.Words.{first_of, found_of, rows_of};
 ghost use Rattle.daemon_words.specs.Values as values;
 ghost use Rattle.daemon_words.specs.Lending as lending;

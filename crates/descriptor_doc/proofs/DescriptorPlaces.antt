@@ -1,34 +1,23 @@
 -- The places of what is wrong with the items of a server descriptor, and of the first fault of their document.
-use Rattle.std.proofs.Common.{◌≡◌, ℕ, zero, suc, ◌+◌, Bool, true, false, List, length, Option, Result, Ok, Err}
-use Rattle.std.proofs.Common.{arith, refl}
-use Rattle.std.specs.Prelude.{◌&&◌, codes, nat_lt, if◌then◌else◌}
-use Rattle.std.proofs.lemmas.Bool.{ltb-true}
+use Rattle.std.proofs.Common.{◌≡◌, ℕ, zero, suc, ◌+◌, Bool, true, false, List, length, Option, Result, Ok, Err, arith}
+use Rattle.std.{proofs.{Common.refl, lemmas.Bool.ltb-true}, specs.Prelude.{◌&&◌, codes, nat_lt, if◌then◌else◌}}
 use Rattle.item_terms.specs.Items.{Item}
 use Rattle.dir_bytes.specs.Fields.{address}
-use Rattle.dir_values.specs.Names.{is_nickname}
-use Rattle.dir_values.specs.Numbers.{port_of}
-use Rattle.dir_values.specs.Ports.{Ports, port_summary}
+use Rattle.dir_values.specs.{Names.is_nickname, Numbers.port_of, Ports.{Ports, port_summary}}
 use Rattle.dir_values.specs.declared.refusal.ValueRefusal.{ValueRefusal}
 use Rattle.dir_values.specs.declared.refusal.ValueRefusal.TheVariants as refusal
-use Rattle.frame_values.specs.declared.found.Span.{Span}
-use Rattle.frame_values.specs.Arguments.{Argument, arguments_of, front, others}
-use Rattle.frame_values.specs.Fields.{span_if}
-use Rattle.frame_values.specs.Lines.{time_of}
-use Rattle.frame_values.specs.Signatures.{has_words, object_of}
+use Rattle.frame_values.specs.{declared.found.Span.Span, Arguments.{Argument, arguments_of, front, others}}
+use Rattle.frame_values.specs.{Fields.span_if, Lines.time_of, Signatures.{has_words, object_of}}
 use Rattle.exit_summary.specs.PolicyItems.{item_of}
 use Rattle.descriptor_frame.specs.Fields.{group_of, groups_of, hibernating, is_address, key, long_number, padded_key}
-use Rattle.descriptor_frame.specs.Fields.{signature}
-use Rattle.descriptor_frame.specs.Lines.{address_of, bandwidth_of, certificate_lines, first_of, identity_of, is_certificate}
-use Rattle.descriptor_frame.specs.Lines.{ports_at, ports_of, router_of, value_at}
-use Rattle.descriptor_frame.specs.Tables.{descriptor_tables}
-use Rattle.descriptor_frame.specs.declared.said.DescriptorKind.{DescriptorKind}
+use Rattle.descriptor_frame.specs.{Fields.signature, Lines.{address_of, bandwidth_of, certificate_lines, first_of}}
+use Rattle.descriptor_frame.specs.Lines.{identity_of, is_certificate, ports_at, ports_of, router_of, value_at}
+use Rattle.descriptor_frame.specs.{Tables.descriptor_tables, declared.said.DescriptorKind.DescriptorKind}
 use Rattle.descriptor_frame.specs.declared.said.DescriptorKind.TheVariants as kind
-use Rattle.fault_places.specs.Within.{FaultsStandIn, HasFaultsWithin}
-use Rattle.fault_places.proofs.FirstFaults.{first_faults}
-use Rattle.fault_places.proofs.ArgumentPlaces.{EachBegins, PlaceIn, others_begin}
-use Rattle.fault_places.proofs.ItemPlaces.{IsItemIn, all_begin, front_argument_begins, first_begins, item_in, more_in, object_in, one_in}
-use Rattle.fault_places.proofs.ItemPlaces.{then_in, time_in}
-use Rattle.fault_places.proofs.Placed.{last_in, placed_in}
+use Rattle.fault_places.{specs.Within.{FaultsStandIn, HasFaultsWithin}, proofs.FirstFaults.first_faults}
+use Rattle.fault_places.proofs.{ArgumentPlaces.{EachBegins, PlaceIn, others_begin}, ItemPlaces.{IsItemIn, all_begin}}
+use Rattle.fault_places.proofs.ItemPlaces.{front_argument_begins, first_begins, item_in, more_in, object_in, one_in}
+use Rattle.fault_places.proofs.{ItemPlaces.{then_in, time_in}, Placed.{last_in, placed_in}}
 
 module _ (n : ℕ) (item : Item) (is : IsItemIn n item) where
   -- ---- lines

@@ -1,16 +1,12 @@
 -- What a verifier answers of family certificates, one after the other.
 use Rattle.std.proofs.Common.{◌≡◌, ℕ, ◌+◌, ◌<◌, Bool, true, false, List, [], ◌∷◌, ◌++◌, length, take, drop, get_or}
-use Rattle.std.proofs.Common.{refl, sym, ap, ◌∙◌, subst}
-use Rattle.std.specs.Prelude.{◌||◌, ◌&&◌, All, Option}
-use Rattle.std.proofs.lemmas.List.{take_more, drop_more, take-append-drop}
-use Rattle.std.proofs.lemmas.List.Elements.{All-head, All-push, All-tail}
-use Rattle.key_port.specs.Answers.{CountsAnswers, Rules, Steps}
-use Rattle.key_port.specs.declared.verifier.VerifyAnswer.{VerifyAnswer}
+use Rattle.std.proofs.{Common.{refl, sym, ap, ◌∙◌, subst}, lemmas.List.{take_more, drop_more, take-append-drop}}
+use Rattle.std.{proofs.lemmas.List.Elements.{All-head, All-push, All-tail}, specs.Prelude.{◌||◌, ◌&&◌, All, Option}}
+use Rattle.key_port.specs.{Answers.{CountsAnswers, Rules, Steps}, declared.verifier.VerifyAnswer.VerifyAnswer}
 use Rattle.key_port.specs.declared.verifier.VerifyAnswer.TheVariants as answer
 use Rattle.descriptor_frame.specs.declared.certificate.EdCert.{EdCert}
-use Rattle.descriptor_doc.specs.Certified.{certifies}
-use Rattle.descriptor_doc.specs.Families.{AcceptsEach, AnswersAtFamily, AsksFamily, IsOfFamily, family_accepted}
-use Rattle.descriptor_doc.specs.Families.{family_refused, one_refused}
+use Rattle.descriptor_doc.specs.{Certified.certifies, Families.{AcceptsEach, AnswersAtFamily, AsksFamily, IsOfFamily}}
+use Rattle.descriptor_doc.specs.Families.{family_accepted, family_refused, one_refused}
 
 -- ---- a list and one of its items
 

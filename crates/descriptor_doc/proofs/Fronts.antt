@@ -1,13 +1,10 @@
 -- Where the first line stands that is not blank.
-use Rattle.std.proofs.Common.{◌≡◌, ℕ, zero, suc, ◌+◌, ◌-◌, ◌≤◌, ◌<◌, Bool, true, false, List, length, take, drop, Option}
-use Rattle.std.proofs.Common.{Some, None, refl, sym, subst, ◌∙◌, arith, inl, inr, length-take}
-use Rattle.std.proofs.lemmas.Bool.{cases_lt}
-use Rattle.std.specs.Prelude.{◌&&◌, if◌then◌else◌, unwrap_or}
-use Rattle.item_terms.specs.Lines.{size}
-use Rattle.item_terms.specs.Words.{is_blank_line}
+use Rattle.std.proofs.Common.{◌≡◌, ℕ, zero, suc, ◌+◌, ◌-◌, ◌≤◌, ◌<◌, Bool, true, false, List, length, take, drop}
+use Rattle.std.proofs.Common.{Option, Some, None, refl, sym, subst, ◌∙◌, arith, inl, inr, length-take}
+use Rattle.std.{proofs.lemmas.Bool.cases_lt, specs.Prelude.{◌&&◌, if◌then◌else◌, unwrap_or}}
+use Rattle.item_terms.specs.{Lines.size, Words.is_blank_line}
 use Rattle.dirdoc_grammar.specs.Reading.{first_line}
-use Rattle.blank_lines.specs.Blanks.{after_blanks, blank_size}
-use Rattle.blank_lines.proofs.LinesBehind.{no_line, one_blank, one_other}
+use Rattle.blank_lines.{specs.Blanks.{after_blanks, blank_size}, proofs.LinesBehind.{no_line, one_blank, one_other}}
 use Rattle.descriptor_doc.specs.Reading.{front_of, max_descriptor}
 
 -- It stands there: within the bytes, and it is the first such from there on.

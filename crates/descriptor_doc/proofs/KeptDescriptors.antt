@@ -1,25 +1,17 @@
 -- The descriptor that is read.
 use Rattle.std.proofs.Common.{◌≡◌, ℕ, ◌+◌, ◌-◌, ◌≤◌, ◌<◌, ◌^◌, List, length, take, drop, Result, Ok, Err, refl, sym, ap}
-use Rattle.std.proofs.Common.{subst, ◌∙◌, arith}
-use Rattle.std.specs.Prelude.{slice_range}
-use Rattle.std.proofs.lemmas.List.{length-drop}
+use Rattle.std.{proofs.{Common.{subst, ◌∙◌, arith}, lemmas.List.length-drop}, specs.Prelude.slice_range}
 use Rattle.dirdoc_grammar.proofs.FirstLine.{whole_rest}
 use Rattle.item_terms.specs.Items.{Contents, items_of}
-use Rattle.frame_terms.specs.declared.fault.FrameFault.{FrameFault}
-use Rattle.frame_terms.specs.declared.fault.ReadRefusal.{ReadRefusal}
-use Rattle.frame_terms.specs.declared.fault.ReadRefusal.TheVariants.{Frame, Memory}
-use Rattle.frame_terms.specs.Documents.{Document, document_of, finish}
+use Rattle.frame_terms.specs.declared.fault.{FrameFault.FrameFault, ReadRefusal.{ReadRefusal, TheVariants.Frame}}
+use Rattle.frame_terms.specs.{declared.fault.ReadRefusal.TheVariants.Memory, Documents.{Document, document_of, finish}}
 use Rattle.frame_values.specs.declared.values.Value.{Value}
-use Rattle.descriptor_frame.specs.Tables.{descriptor_tables}
-use Rattle.descriptor_frame.specs.declared.said.DescriptorValue.{DescriptorValue}
-use Rattle.descriptor_doc.specs.declared.descriptor.Descriptor.{Descriptor}
-use Rattle.descriptor_doc.specs.declared.kept.Kept.{Kept}
-use Rattle.descriptor_doc.specs.Heads.{none_kept, kept_with}
-use Rattle.descriptor_doc.specs.Descriptors.{descriptor_in}
-use Rattle.blank_lines.specs.Behind.{FitsBehind}
-use Rattle.descriptor_doc.specs.Reading.{KeepsDescriptor, ReadsDescriptor, descriptor_behind, front_of}
-use Rattle.descriptor_doc.specs.Reading.{max_descriptor, own_kept, with_descriptor}
+use Rattle.descriptor_frame.specs.{Tables.descriptor_tables, declared.said.DescriptorValue.DescriptorValue}
+use Rattle.descriptor_doc.specs.{declared.{descriptor.Descriptor.Descriptor, kept.Kept.Kept}, Heads.none_kept}
+use Rattle.descriptor_doc.specs.{Heads.kept_with, Descriptors.descriptor_in, Reading.{KeepsDescriptor, ReadsDescriptor}}
+use Rattle.descriptor_doc.specs.Reading.{descriptor_behind, front_of, max_descriptor, own_kept, with_descriptor}
 use Rattle.descriptor_doc.proofs.DescriptorPlaces.{descriptor_faults}
+use Rattle.blank_lines.specs.Behind.{FitsBehind}
 
 abbrev refused : {A : Type 0} → ReadRefusal → Result A ReadRefusal
 refused refusal = Err refusal

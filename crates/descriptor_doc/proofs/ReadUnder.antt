@@ -1,10 +1,9 @@
 -- The descriptor as an authority reads it, and what was read of its items alone.
 use Rattle.std.proofs.Common.{◌≡◌, ℕ, List, Result, Ok, Err, refl, sym, ap, ◌∙◌}
 use Rattle.count_terms.specs.declared.newest.Newest.{Newest}
-use Rattle.frame_terms.specs.declared.fault.ReadRefusal.{ReadRefusal}
-use Rattle.frame_terms.specs.declared.fault.ReadRefusal.TheVariants.{Frame, Memory}
-use Rattle.descriptor_doc.specs.declared.descriptor.Descriptor.{Descriptor}
-use Rattle.descriptor_doc.specs.Reading.{ReadsDescriptor, ReadsUnder, as_read, descriptor_of, descriptor_under, read_under}
+use Rattle.frame_terms.specs.declared.fault.ReadRefusal.{ReadRefusal, TheVariants.{Frame, Memory}}
+use Rattle.descriptor_doc.specs.{declared.descriptor.Descriptor.Descriptor, Reading.{ReadsDescriptor, ReadsUnder}}
+use Rattle.descriptor_doc.specs.Reading.{as_read, descriptor_of, descriptor_under, read_under}
 
 abbrev answer : Descriptor → ℕ → Result (Descriptor × ℕ) ReadRefusal
 answer d used = Ok (d, used)

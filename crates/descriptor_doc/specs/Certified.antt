@@ -1,12 +1,9 @@
 -- An Ed25519 certificate at the moment at which a descriptor was published (dir-spec, "Server descriptor format"; cert-spec).
-use Rattle.std.specs.Prelude.{ℕ, ◌*◌, nat_le, Bool, false, List}
-use Rattle.std.specs.declared.option.Option.{Option}
-use Rattle.std.specs.declared.option.Option.TheVariants.{Some, None}
-use Rattle.std.specs.Str.{bytes_eq}
+use Rattle.std.specs.{Prelude.{ℕ, ◌*◌, nat_le, Bool, false, List}, declared.option.Option.{Option, TheVariants.Some}}
+use Rattle.std.specs.{declared.option.Option.TheVariants.None, Str.bytes_eq}
 use Rattle.descriptor_frame.specs.declared.certificate.EdCert.{EdCert}
-use Rattle.key_port.specs.Answers.{Relation, Steps}
+use Rattle.key_port.specs.{Answers.{Relation, Steps}, declared.verifier.VerifyAnswer.VerifyAnswer}
 use Rattle.key_port.specs.declared.verifier.KeyKind.TheVariants as kind
-use Rattle.key_port.specs.declared.verifier.VerifyAnswer.{VerifyAnswer}
 
 -- whether a certificate's signer is this key
 abbrev pub is_signer : List ℕ → Option EdCert → Bool

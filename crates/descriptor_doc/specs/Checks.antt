@@ -1,21 +1,16 @@
 -- When a descriptor holds (dir-spec, "Server descriptor format"; cert-spec).
-use Rattle.std.specs.Prelude.{◌≡◌, ◌⊎◌, ℕ, Bool, true, false, ◌&&◌, ◌||◌, List}
-use Rattle.std.specs.declared.option.Option.{Option}
+use Rattle.std.specs.{Prelude.{◌≡◌, ◌⊎◌, ℕ, Bool, true, false, ◌&&◌, ◌||◌, List}, declared.option.Option.Option}
 use Rattle.std.specs.declared.option.Option.TheVariants.{Some, None}
-use Rattle.dir_values.specs.Digests.{same_identity}
-use Rattle.dir_values.specs.declared.digest.Fingerprint.{Fingerprint}
+use Rattle.dir_values.specs.{Digests.same_identity, declared.digest.Fingerprint.Fingerprint}
 use Rattle.descriptor_frame.specs.declared.certificate.EdCert.{EdCert}
-use Rattle.key_port.specs.Answers.{Relation, Rules, Steps}
+use Rattle.key_port.specs.{Answers.{Relation, Rules, Steps}, declared.verifier.VerifyAnswer.VerifyAnswer}
 use Rattle.key_port.specs.declared.verifier.KeyKind.TheVariants as kind
-use Rattle.key_port.specs.declared.verifier.VerifyAnswer.{VerifyAnswer}
 use Rattle.key_port.specs.declared.verifier.VerifyAnswer.TheVariants as answer
 use Rattle.descriptor_doc.specs.declared.checking.DescriptorRefusal.{DescriptorRefusal}
+use Rattle.descriptor_doc.specs.declared.descriptor.{Descriptor.Descriptor, EdSignature.EdSignature}
+use Rattle.descriptor_doc.specs.{Certified.{AsksCertificate, certifies, has_expired, is_signer}, Families.AreOfFamilies}
+use Rattle.descriptor_doc.specs.{Families.{AsksFamilies, are_families_refused}, Reading.IsRead}
 use Rattle.descriptor_doc.specs.declared.checking.DescriptorRefusal.TheVariants as refusal
-use Rattle.descriptor_doc.specs.declared.descriptor.Descriptor.{Descriptor}
-use Rattle.descriptor_doc.specs.declared.descriptor.EdSignature.{EdSignature}
-use Rattle.descriptor_doc.specs.Certified.{AsksCertificate, certifies, has_expired, is_signer}
-use Rattle.descriptor_doc.specs.Families.{AreOfFamilies, AsksFamilies, are_families_refused}
-use Rattle.descriptor_doc.specs.Reading.{IsRead}
 
 -- ---- who signed it
 

@@ -1,24 +1,15 @@
 -- What a descriptor says (dir-spec, "Server descriptor format").
-use Rattle.std.specs.Prelude.{ℕ, ◌+◌, ◌==◌, Bool, List, [], ◌++◌, take, map, slice_range, codes}
-use Rattle.std.specs.Prelude.{Option, Some, option_and_then}
-use Rattle.std.specs.List.{position_or_len}
-use Rattle.std.specs.Option.{option_map}
-use Rattle.std.specs.Result.{result_ok}
+use Rattle.std.specs.Prelude.{ℕ, ◌+◌, ◌==◌, Bool, List, [], ◌++◌, take, map, slice_range, codes, Option, Some}
+use Rattle.std.specs.{Prelude.option_and_then, List.position_or_len, Option.option_map, Result.result_ok}
 use Rattle.sha1.specs.Sha1.{sha1}
 use Rattle.sha2.specs.Sha256.{sha256}
-use Rattle.item_terms.specs.Bytes.{space}
-use Rattle.item_terms.specs.Words.{words_of}
+use Rattle.item_terms.specs.{Bytes.space, Words.words_of}
 use Rattle.dir_values.specs.Ports.{Ports, port_summary}
-use Rattle.descriptor_frame.specs.Certificates.{certificate_of}
-use Rattle.descriptor_frame.specs.declared.certificate.EdCert.{EdCert}
-use Rattle.frame_values.specs.Parts.{part, bytes_in, moment_of}
-use Rattle.frame_values.specs.declared.found.Span.{Span}
+use Rattle.descriptor_frame.specs.{Certificates.certificate_of, declared.certificate.EdCert.EdCert}
 use Rattle.descriptor_frame.specs.declared.said.RouterLine.{RouterLine}
-use Rattle.descriptor_doc.specs.declared.descriptor.Descriptor.{Descriptor}
-use Rattle.descriptor_doc.specs.declared.descriptor.EdSignature.{EdSignature}
-use Rattle.descriptor_doc.specs.declared.descriptor.Router.{Router}
-use Rattle.descriptor_doc.specs.declared.head.Head.{Head}
-use Rattle.descriptor_doc.specs.declared.kept.Kept.{Kept}
+use Rattle.frame_values.specs.{Parts.{part, bytes_in, moment_of}, declared.found.Span.Span}
+use Rattle.descriptor_doc.specs.declared.descriptor.{Descriptor.Descriptor, EdSignature.EdSignature, Router.Router}
+use Rattle.descriptor_doc.specs.declared.{head.Head.Head, kept.Kept.Kept}
 
 -- ---- parts of the text
 

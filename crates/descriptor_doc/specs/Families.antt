@@ -1,11 +1,9 @@
 -- When the family certificates of a descriptor hold, and what a verifier is asked of them (dir-spec, "Server descriptor format";
 -- cert-spec).
 use Rattle.std.specs.Prelude.{◌≡◌, ℕ, Bool, true, false, not, ◌&&◌, ◌||◌, List, [], ◌∷◌, ◌++◌, All}
-use Rattle.std.specs.declared.option.Option.{Option}
-use Rattle.std.specs.declared.option.Option.TheVariants.{Some, None}
+use Rattle.std.specs.declared.option.Option.{Option, TheVariants.{Some, None}}
 use Rattle.descriptor_frame.specs.declared.certificate.EdCert.{EdCert}
-use Rattle.key_port.specs.Answers.{Rules, Steps}
-use Rattle.key_port.specs.declared.verifier.VerifyAnswer.{VerifyAnswer}
+use Rattle.key_port.specs.{Answers.{Rules, Steps}, declared.verifier.VerifyAnswer.VerifyAnswer}
 use Rattle.key_port.specs.declared.verifier.VerifyAnswer.TheVariants as answer
 use Rattle.descriptor_doc.specs.Certified.{AsksCertificate, certifies, has_expired, is_signer}
 

@@ -1,16 +1,12 @@
 -- The family certificates of a relay, as the items `family-cert` of its descriptor say them (dir-spec, "Server descriptor
 -- format"; cert-spec, "Document formats", type 12).
 use Rattle.std.specs.Prelude.{Bool, true, false, List, codes, filter_map, Option, Some, None, option_and_then}
-use Rattle.std.specs.Prelude.{if◌then◌else◌}
-use Rattle.std.specs.List.{list_any}
-use Rattle.std.specs.Str.{bytes_eq}
+use Rattle.std.specs.{Prelude.if◌then◌else◌, List.list_any, Str.bytes_eq}
 use Rattle.item_terms.specs.Items.{Item, Object}
 use Rattle.dirdoc_grammar.specs.Bodies.{decoded_bytes}
 use Rattle.frame_values.specs.Signatures.{has_words}
-use Rattle.descriptor_frame.specs.Certificates.{family_certificate_of}
-use Rattle.descriptor_frame.specs.declared.certificate.EdCert.{EdCert}
-use Rattle.descriptor_doc.specs.declared.families.FamilyItem.{FamilyItem}
-use Rattle.descriptor_doc.specs.declared.families.FamilyItem.TheVariants.{Cert, NoCert, Other}
+use Rattle.descriptor_frame.specs.{Certificates.family_certificate_of, declared.certificate.EdCert.EdCert}
+use Rattle.descriptor_doc.specs.declared.families.FamilyItem.{FamilyItem, TheVariants.{Cert, NoCert, Other}}
 
 -- whether an item is one of a family
 abbrev pub is_family_item : Item → Bool

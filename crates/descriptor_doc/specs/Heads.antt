@@ -3,14 +3,12 @@
 use Rattle.std.specs.Prelude.{List, [], ◌++◌, filter_map}
 use Rattle.frame_terms.specs.declared.keyword.Keyword.TheVariants as the
 use Rattle.frame_terms.specs.declared.document.Taken.{Taken}
-use Rattle.frame_values.specs.declared.values.Value.{Value}
-use Rattle.frame_values.specs.Values.{item_at, place_in, separator_in, line_end_in, after_in}
-use Rattle.frame_values.specs.Values.{number_in, text_if, object_in}
+use Rattle.frame_values.specs.{declared.values.Value.Value, Values.{item_at, place_in, separator_in, line_end_in}}
+use Rattle.frame_values.specs.Values.{after_in, number_in, text_if, object_in}
 use Rattle.descriptor_frame.specs.declared.said.DescriptorValue.{DescriptorValue}
-use Rattle.descriptor_doc.specs.declared.head.Head.{Head}
-use Rattle.descriptor_doc.specs.declared.kept.Kept.{Kept}
-use Rattle.descriptor_doc.specs.Saying.{router_in, key_in, uptime_in, bandwidth_in, hibernating_in, ed_signature_in}
-use Rattle.descriptor_doc.specs.Saying.{object_if, fingerprint_if, is_there, policy_if, address_if}
+use Rattle.descriptor_doc.specs.{declared.{head.Head.Head, kept.Kept.Kept}, Saying.{router_in, key_in, uptime_in}}
+use Rattle.descriptor_doc.specs.Saying.{bandwidth_in, hibernating_in, ed_signature_in, object_if, fingerprint_if}
+use Rattle.descriptor_doc.specs.Saying.{is_there, policy_if, address_if}
 
 -- what is kept of the items that stand at most once
 abbrev pub head_of : List (Taken (Value DescriptorValue)) → Head

@@ -1,20 +1,12 @@
 -- The descriptor that bytes begin with, or their first fault (dir-spec, "Server descriptor format").
 use Rattle.std.specs.Prelude.{◌≡◌, ℕ, ◌+◌, ◌-◌, ◌≤◌, List, drop, length, take, Option, unwrap_or, Result, Ok, Err}
-use Rattle.count_terms.specs.declared.newest.Newest.{Newest}
-use Rattle.count_terms.specs.declared.newest.Newest.TheVariants.{Method33, Method34, Method35}
+use Rattle.count_terms.specs.declared.newest.Newest.{Newest, TheVariants.{Method33, Method34, Method35}}
 use Rattle.item_terms.specs.Items.{items_of}
-use Rattle.frame_terms.specs.declared.fault.ReadRefusal.{ReadRefusal}
-use Rattle.frame_terms.specs.Documents.{document_of, finish}
-use Rattle.frame_terms.specs.Refusals.{Fails}
-use Rattle.blank_lines.specs.Behind.{refusal_behind}
-use Rattle.blank_lines.specs.Blanks.{after_blanks}
-use Rattle.descriptor_frame.specs.Tables.{descriptor_tables}
-use Rattle.descriptor_frame.specs.declared.certificate.EdCert.{EdCert}
-use Rattle.descriptor_doc.specs.declared.descriptor.Descriptor.{Descriptor}
-use Rattle.descriptor_doc.specs.declared.kept.Kept.{Kept}
-use Rattle.descriptor_doc.specs.Heads.{none_kept, kept_with}
-use Rattle.descriptor_doc.specs.Descriptors.{descriptor_in}
-use Rattle.descriptor_doc.specs.FamilyCerts.{family_certs_of}
+use Rattle.frame_terms.specs.{declared.fault.ReadRefusal.ReadRefusal, Documents.{document_of, finish}, Refusals.Fails}
+use Rattle.blank_lines.specs.{Behind.refusal_behind, Blanks.after_blanks}
+use Rattle.descriptor_frame.specs.{Tables.descriptor_tables, declared.certificate.EdCert.EdCert}
+use Rattle.descriptor_doc.specs.{declared.{descriptor.Descriptor.Descriptor, kept.Kept.Kept}, Heads.none_kept}
+use Rattle.descriptor_doc.specs.{Heads.kept_with, Descriptors.descriptor_in, FamilyCerts.family_certs_of}
 
 -- how many bytes a descriptor may have, with the blank lines before it
 abbrev pub max_descriptor : ℕ

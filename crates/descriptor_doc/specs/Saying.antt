@@ -1,19 +1,14 @@
 -- What the items of a descriptor say. Where an item is not there, or says something else, its value is nothing.
 use Rattle.std.specs.Prelude.{ℕ, Bool, List, is_some, Option, Some, None, if◌then◌else◌}
-use Rattle.dir_values.specs.declared.digest.Fingerprint.{Fingerprint}
-use Rattle.dir_values.specs.declared.policy.PolicyItem.{PolicyItem}
+use Rattle.dir_values.specs.declared.{digest.Fingerprint.Fingerprint, policy.PolicyItem.PolicyItem}
 use Rattle.exit_summary.specs.Policies.{is_net}
-use Rattle.frame_terms.specs.declared.document.Taken.{Taken}
-use Rattle.frame_terms.specs.declared.keyword.Keyword.TheVariants.{OrAddress}
-use Rattle.frame_terms.specs.Keywords.{same}
-use Rattle.frame_values.specs.declared.found.Span.{Span}
-use Rattle.frame_values.specs.declared.values.Value.{Value}
+use Rattle.frame_terms.specs.{declared.{document.Taken.Taken, keyword.Keyword.TheVariants.OrAddress}, Keywords.same}
+use Rattle.frame_values.specs.{declared.{found.Span.Span, values.Value.Value}, Values.{nowhere, own_in, value_if}}
+use Rattle.frame_values.specs.Values.{text_of_value}
 use Rattle.frame_values.specs.declared.values.Value.TheVariants as value
-use Rattle.frame_values.specs.Values.{nowhere, own_in, value_if, text_of_value}
-use Rattle.descriptor_frame.specs.declared.said.BandwidthLine.{BandwidthLine}
-use Rattle.descriptor_frame.specs.declared.said.DescriptorValue.{DescriptorValue}
-use Rattle.descriptor_frame.specs.declared.said.DescriptorValue.TheVariants as own
+use Rattle.descriptor_frame.specs.declared.said.{BandwidthLine.BandwidthLine, DescriptorValue.DescriptorValue}
 use Rattle.descriptor_frame.specs.declared.said.RouterLine.{RouterLine}
+use Rattle.descriptor_frame.specs.declared.said.DescriptorValue.TheVariants as own
 
 -- an item, if there is one
 abbrev pub ItemIf : Type 0

@@ -1,8 +1,7 @@
 // A descriptor that was checked.
 ghost use Rattle.std.specs.Prelude.{◌≡◌};
 ghost use Rattle.key_port.specs.Answers.{rules};
-ghost use Rattle.descriptor_doc.specs.Checks.{IsVerified};
-ghost use Rattle.descriptor_doc.specs.Reading.{IsRead};
+ghost use Rattle.descriptor_doc.specs.{Checks.IsVerified, Reading.IsRead};
 
 use crate::descriptor::Descriptor;
 use key_port::Verifier;
@@ -18,8 +17,7 @@ pub struct CheckedDescriptor<V: Verifier> {
 
 impl<V: Verifier> Model for CheckedDescriptor<V> {
     ghost use Rattle.key_port.specs.Answers.{rules};
-    ghost use Rattle.descriptor_doc.specs.Checks.{IsChecked};
-    ghost use Rattle.descriptor_doc.specs.declared.descriptor.Descriptor.{Descriptor};
+    ghost use Rattle.descriptor_doc.specs.{Checks.IsChecked, declared.descriptor.Descriptor.Descriptor};
 
     ghost Value = { Descriptor };
 

@@ -5,9 +5,8 @@ ghost use Rattle.key_port.specs.Answers.{CountsAnswers, rules};
 ghost use Rattle.key_port.specs.declared.verifier.VerifyAnswer.TheVariants as verified;
 ghost use Rattle.descriptor_doc.specs.Certified as certified;
 ghost use Rattle.descriptor_doc.specs.Checks as checks;
-ghost use Rattle.descriptor_doc.specs.Checks.{AsksAll, AsksOfRefused, IsVerified, RefusedBy};
+ghost use Rattle.descriptor_doc.specs.{Checks.{AsksAll, AsksOfRefused, IsVerified, RefusedBy}, Reading.IsRead};
 ghost use Rattle.descriptor_doc.specs.Families as kin;
-ghost use Rattle.descriptor_doc.specs.Reading.{IsRead};
 
 use crate::checked::CheckedDescriptor;
 use crate::descriptor::{Descriptor, EdSignature};

@@ -1,8 +1,8 @@
 // Reading a descriptor.
 ghost use Rattle.std.specs.Prelude.{◌≡◌, ◌≤◌, ◌<◌, ◌^◌, IfOk, length, slice_range};
-ghost use Rattle.descriptor_doc.specs.Descriptors.{descriptor_in};
+ghost use Rattle.descriptor_doc.specs.{Descriptors.descriptor_in, Reading.{KeepsDescriptor, ReadsDescriptor}};
+ghost use Rattle.descriptor_doc.specs.Reading.{ReadsUnder, max_descriptor};
 ghost use Rattle.descriptor_doc.specs.Reading as reading;
-ghost use Rattle.descriptor_doc.specs.Reading.{KeepsDescriptor, ReadsDescriptor, ReadsUnder, max_descriptor};
 
 use crate::descriptor::Descriptor;
 use crate::families::as_read;

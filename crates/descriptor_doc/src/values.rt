@@ -1,7 +1,6 @@
 // What a descriptor says of which something was kept, in values of its own.
 ghost use Rattle.std.specs.Prelude.{◌≡◌, ◌<◌, ◌≤◌, ◌^◌, ◌++◌, IfOk, length, map, option_map, option_and_then};
-ghost use Rattle.std.specs.Prelude.{slice_range};
-ghost use Rattle.std.specs.List.{position_or_len};
+ghost use Rattle.std.specs.{Prelude.slice_range, List.position_or_len};
 ghost use Rattle.sha2.specs.Sha256.{sha256};
 ghost use Rattle.item_terms.specs.Words.{words_of};
 ghost use Rattle.frame_values.specs.Parts as parts;

@@ -1,9 +1,6 @@
 -- The canonical forms of names, name by name.
-use Rattle.std.proofs.Common.{◌≡◌, ◌∙◌, ℕ, List, [], ◌∷◌, refl, ap}
-use Rattle.std.specs.Prelude.{Bool, false, ◌||◌, Option, Some, None, filter_map}
-use Rattle.std.specs.List.{list_any, cons_option}
-use Rattle.std.specs.Option.{option_map_or}
-use Rattle.std.specs.Str.{bytes_eq}
+use Rattle.std.{proofs.Common.{◌≡◌, ◌∙◌, ℕ, List, [], ◌∷◌, refl, ap}, specs.Prelude.{Bool, false, ◌||◌, Option, Some}}
+use Rattle.std.specs.{Prelude.{None, filter_map}, List.{list_any, cons_option}, Option.option_map_or, Str.bytes_eq}
 use Rattle.descriptor_frame.specs.Families.{is_form_of, member_of}
 
 -- whether a text is this form, or one of others

@@ -1,8 +1,7 @@
 -- Groups of hex digits, one after the other.
-use Rattle.std.proofs.Common.{◌≡◌, ℕ, suc, ◌+◌, ◌-◌, ◌*◌, ◌<◌, ◌≤◌, List, [], ◌∷◌, ◌++◌, take, length, ap, ◌∙◌, sym, refl}
-use Rattle.std.proofs.Common.{arith, append_assoc, append-nil, slice_set, slice_index_or}
-use Rattle.std.proofs.lemmas.Grind.{common_steps}
-use Rattle.std.specs.Prelude.{Result, Ok, Err}
+use Rattle.std.proofs.Common.{◌≡◌, ℕ, suc, ◌+◌, ◌-◌, ◌*◌, ◌<◌, ◌≤◌, List, [], ◌∷◌, ◌++◌, take, length, ap, ◌∙◌, sym}
+use Rattle.std.proofs.Common.{refl, arith, append_assoc, append-nil, slice_set, slice_index_or}
+use Rattle.std.{proofs.lemmas.Grind.common_steps, specs.Prelude.{Result, Ok, Err}}
 use Rattle.frame_values.specs.Arguments.{Argument, others, next}
 use Rattle.descriptor_frame.specs.Fields.{group_in, groups_of}
 

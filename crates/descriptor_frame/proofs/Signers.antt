@@ -1,7 +1,6 @@
 -- The signer that extensions hold, one extension after the other.
-use Rattle.std.proofs.Common.{◌≡◌, ℕ, suc, ◌+◌, ◌-◌, ◌<◌, ◌≤◌, Bool, List, length, drop, ap, ◌∙◌, arith}
-use Rattle.std.proofs.Common.{Option, Some, None}
-use Rattle.std.specs.Prelude.{◌==◌, if◌then◌else◌}
+use Rattle.std.proofs.Common.{◌≡◌, ℕ, suc, ◌+◌, ◌-◌, ◌<◌, ◌≤◌, Bool, List, length, drop, ap, ◌∙◌, arith, Option, Some}
+use Rattle.std.{proofs.Common.None, specs.Prelude.{◌==◌, if◌then◌else◌}}
 use Rattle.descriptor_frame.specs.Certificates.{content_len, first_extension, then_signer, signer_in}
 
 -- what so many extensions behind the first one make of what that one made of the signer

@@ -1,6 +1,6 @@
 -- What the bytes of an Ed25519 certificate say (cert-spec, "Document formats").
-use Rattle.std.specs.Prelude.{ℕ, zero, suc, ◌+◌, ◌-◌, ◌*◌, ◌%◌, ◌==◌, nat_le, Bool, ◌&&◌, if◌then◌else◌}
-use Rattle.std.specs.Prelude.{List, length, take, drop, slice_index, slice_range, Option, Some, None}
+use Rattle.std.specs.Prelude.{ℕ, zero, suc, ◌+◌, ◌-◌, ◌*◌, ◌%◌, ◌==◌, nat_le, Bool, ◌&&◌, if◌then◌else◌, List, length}
+use Rattle.std.specs.Prelude.{take, drop, slice_index, slice_range, Option, Some, None}
 use Rattle.descriptor_frame.specs.declared.certificate.EdCert.{EdCert}
 
 -- ---- the extensions

@@ -1,15 +1,11 @@
 -- The canonical form of a relay's family (dir-spec, "Computing microdescriptors", the `family` line). Which names are
 -- left out and which are kept is this project's choice.
 use Rattle.std.specs.Prelude.{◌≡◌, ℕ, ◌+◌, ◌==◌, nat_le, Bool, true, false, ◌&&◌, ◌||◌, List, [], ◌∷◌, map, take, drop}
-use Rattle.std.specs.Prelude.{Option, Some, None, if◌then◌else◌, filter_map}
-use Rattle.std.specs.List.{join_with_byte, list_any}
-use Rattle.std.specs.Option.{option_map_or}
-use Rattle.std.specs.Str.{bytes_eq}
+use Rattle.std.specs.{Prelude.{Option, Some, None, if◌then◌else◌, filter_map}, List.{join_with_byte, list_any}}
+use Rattle.std.specs.{Option.option_map_or, Str.bytes_eq}
 use Rattle.item_terms.specs.Bytes.{space}
-use Rattle.dir_values.specs.Digests.{fingerprint, fingerprint_text}
-use Rattle.dir_values.specs.FlagSets.{Ascend, as_set, has_flag}
-use Rattle.dir_values.specs.Names.{is_nickname}
-use Rattle.dir_values.specs.declared.digest.Fingerprint.{Fingerprint}
+use Rattle.dir_values.specs.{Digests.{fingerprint, fingerprint_text}, FlagSets.{Ascend, as_set, has_flag}}
+use Rattle.dir_values.specs.{Names.is_nickname, declared.digest.Fingerprint.Fingerprint}
 
 -- `$`, which may stand in front of a fingerprint
 abbrev pub dollar : ℕ

@@ -1,7 +1,6 @@
 -- What single arguments of a server descriptor's items say (dir-spec, "Server descriptor format").
 use Rattle.std.specs.Prelude.{ℕ, suc, zero, ◌==◌, Bool, true, false, ◌&&◌, if◌then◌else◌, List, [], ◌++◌, length, take}
-use Rattle.std.specs.Prelude.{slice_index, codes, is_some, Option, Some, None, Result, Ok}
-use Rattle.std.specs.Str.{bytes_eq}
+use Rattle.std.specs.{Prelude.{slice_index, codes, is_some, Option, Some, None, Result, Ok}, Str.bytes_eq}
 use Rattle.dir_bytes.specs.Fields.{base64, hex, number}
 use Rattle.dir_values.specs.Numbers.{port_of}
 use Rattle.frame_values.specs.Arguments.{Argument, front, others, field, next}

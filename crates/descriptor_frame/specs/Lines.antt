@@ -4,33 +4,24 @@ use Rattle.std.specs.Prelude.{ℕ, ◌+◌, nat_lt, Bool, true, false, ◌&&◌,
 use Rattle.std.specs.Prelude.{Option, Some, None, option_and_then, Result, Ok, Err}
 use Rattle.item_terms.specs.Items.{Item, Object}
 use Rattle.dir_bytes.specs.Fields.{address}
-use Rattle.dir_values.specs.Names.{is_nickname}
-use Rattle.dir_values.specs.Numbers.{port_of}
-use Rattle.dir_values.specs.Ports.{Ports, port_summary}
-use Rattle.dir_values.specs.declared.digest.Fingerprint.{Fingerprint}
-use Rattle.dir_values.specs.declared.refusal.ValueRefusal.{ValueRefusal}
+use Rattle.dir_values.specs.{Names.is_nickname, Numbers.port_of, Ports.{Ports, port_summary}}
+use Rattle.dir_values.specs.declared.{digest.Fingerprint.Fingerprint, refusal.ValueRefusal.ValueRefusal}
 use Rattle.dir_values.specs.declared.refusal.ValueRefusal.TheVariants.{BadValue, Memory}
 use Rattle.dirdoc_grammar.specs.Bodies.{decoded_bytes}
-use Rattle.descriptor_frame.specs.Certificates.{certificate_of}
-use Rattle.frame_values.specs.declared.found.Span.{Span}
-use Rattle.frame_values.specs.declared.values.Value.{Value}
+use Rattle.descriptor_frame.specs.{Certificates.certificate_of, Fields.{long_number, hibernating, key, padded_key}}
+use Rattle.descriptor_frame.specs.{Fields.{signature, is_address, groups_of}, declared.said.BandwidthLine.BandwidthLine}
+use Rattle.descriptor_frame.specs.declared.said.DescriptorKind.{DescriptorKind, TheVariants.{Router, Certificate, Key}}
+use Rattle.descriptor_frame.specs.declared.said.DescriptorKind.TheVariants.{Rest, Time, Fingerprint as Identity, Uptime}
+use Rattle.descriptor_frame.specs.declared.said.DescriptorKind.TheVariants.{Bandwidth, Hibernating, Object as AnyObject}
+use Rattle.descriptor_frame.specs.declared.said.DescriptorKind.TheVariants.{PaddedKey, Policy, Ports as PortsLine}
+use Rattle.descriptor_frame.specs.declared.said.DescriptorKind.TheVariants.{Address, Nothing, EdSignature, Signature}
+use Rattle.descriptor_frame.specs.declared.said.{DescriptorValue.DescriptorValue, RouterLine.RouterLine}
+use Rattle.frame_values.specs.{declared.{found.Span.Span, values.Value.Value}, Arguments.{arguments_of, front, others}}
+use Rattle.frame_values.specs.{Arguments.{field, next}, Fields.span_if, Lines.{rest_of, time_of}, Signatures.has_words}
+use Rattle.frame_values.specs.Signatures.{object_of}
 use Rattle.frame_values.specs.declared.values.Value.TheVariants as value
-use Rattle.frame_values.specs.Arguments.{arguments_of, front, others, field, next}
-use Rattle.frame_values.specs.Fields.{span_if}
-use Rattle.frame_values.specs.Lines.{rest_of, time_of}
-use Rattle.frame_values.specs.Signatures.{has_words, object_of}
 use Rattle.exit_summary.specs.PolicyItems.{item_of}
-use Rattle.descriptor_frame.specs.Fields.{long_number, hibernating, key, padded_key, signature, is_address, groups_of}
-use Rattle.descriptor_frame.specs.declared.said.BandwidthLine.{BandwidthLine}
-use Rattle.descriptor_frame.specs.declared.said.DescriptorKind.{DescriptorKind}
-use Rattle.descriptor_frame.specs.declared.said.DescriptorKind.TheVariants.{Router, Certificate, Key, Rest, Time}
-use Rattle.descriptor_frame.specs.declared.said.DescriptorKind.TheVariants.{Fingerprint as Identity, Uptime, Bandwidth}
-use Rattle.descriptor_frame.specs.declared.said.DescriptorKind.TheVariants.{Hibernating, Object as AnyObject, PaddedKey}
-use Rattle.descriptor_frame.specs.declared.said.DescriptorKind.TheVariants.{Policy, Ports as PortsLine, Address, Nothing}
-use Rattle.descriptor_frame.specs.declared.said.DescriptorKind.TheVariants.{EdSignature, Signature}
-use Rattle.descriptor_frame.specs.declared.said.DescriptorValue.{DescriptorValue}
 use Rattle.descriptor_frame.specs.declared.said.DescriptorValue.TheVariants as own
-use Rattle.descriptor_frame.specs.declared.said.RouterLine.{RouterLine}
 
 -- a relay: nickname, IPv4 address, ORPort, SOCKSPort, DirPort
 abbrev pub router_of : Item → Result RouterLine ℕ

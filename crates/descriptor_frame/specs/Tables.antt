@@ -2,18 +2,13 @@
 -- left out is this project's choice.
 use Rattle.std.specs.Prelude.{true, false, List, [], ◌∷◌, Some, None, Ok}
 use Rattle.frame_terms.specs.declared.keyword.Keyword.TheVariants as the
-use Rattle.frame_terms.specs.declared.row.Count.TheVariants.{One, Optional, Many}
-use Rattle.frame_terms.specs.declared.row.Row.{Row}
+use Rattle.frame_terms.specs.declared.{row.{Count.TheVariants.{One, Optional, Many}, Row.Row}, section.Shape.Shape}
+use Rattle.frame_terms.specs.{Rows.row, Tables.Tables}
 use Rattle.frame_terms.specs.declared.section.Again.TheVariants as again
-use Rattle.frame_terms.specs.declared.section.Shape.{Shape}
-use Rattle.frame_terms.specs.Rows.{row}
-use Rattle.frame_terms.specs.Tables.{Tables}
-use Rattle.frame_values.specs.declared.values.Value.{Value}
-use Rattle.frame_values.specs.Faults.{at_place}
-use Rattle.descriptor_frame.specs.declared.said.DescriptorKind.{DescriptorKind}
-use Rattle.descriptor_frame.specs.declared.said.DescriptorKind.TheVariants as kind
-use Rattle.descriptor_frame.specs.declared.said.DescriptorValue.{DescriptorValue}
+use Rattle.frame_values.specs.{declared.values.Value.Value, Faults.at_place}
+use Rattle.descriptor_frame.specs.declared.said.{DescriptorKind.DescriptorKind, DescriptorValue.DescriptorValue}
 use Rattle.descriptor_frame.specs.Lines.{value_at}
+use Rattle.descriptor_frame.specs.declared.said.DescriptorKind.TheVariants as kind
 
 -- its items; the first one opens it
 abbrev pub rows : List (Row DescriptorKind)

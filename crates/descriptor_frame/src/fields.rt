@@ -1,8 +1,7 @@
 // What single arguments of a server descriptor's items say.
 ghost use Rattle.std.specs.Prelude.{◌≡◌, ◌<◌, ◌+◌, ◌^◌, length};
 ghost use Rattle.dir_values.specs.Taking.{argument_of};
-ghost use Rattle.frame_values.specs.Arguments.{others};
-ghost use Rattle.frame_values.specs.Fields.{span_if};
+ghost use Rattle.frame_values.specs.{Arguments.others, Fields.span_if};
 ghost use Rattle.descriptor_frame.specs.Fields as fields;
 
 use dir_bytes::{read_base64, read_hex, read_u64};

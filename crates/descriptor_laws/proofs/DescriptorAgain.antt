@@ -1,32 +1,23 @@
 -- A server descriptor that was written is read again.
-use Rattle.std.proofs.Common.{◌≡◌, ℕ, ◌+◌, Bool, true, false, List, [], ◌∷◌, ◌++◌, length, take, Some, Result, Ok}
-use Rattle.std.proofs.Common.{refl, ap, subst, ◌∙◌, sym, append-nil, arith}
-use Rattle.std.proofs.lemmas.List.{take-append-le, take_all}
-use Rattle.std.specs.Prelude.{◌&&◌, ◌==◌, map, unwrap_or, if◌then◌else◌}
-use Rattle.std.specs.List.{list_all}
-use Rattle.item_terms.specs.Items.{Contents, contents, nothing}
-use Rattle.item_terms.specs.Lines.{Line, lines, onto, size}
-use Rattle.item_terms.specs.Words.{begins_dash, is_blank, is_blank_line}
+use Rattle.std.proofs.Common.{◌≡◌, ℕ, ◌+◌, Bool, true, false, List, [], ◌∷◌, ◌++◌, length, take, Some, Result, Ok, refl}
+use Rattle.std.proofs.{Common.{ap, subst, ◌∙◌, sym, append-nil, arith}, lemmas.List.{take-append-le, take_all}}
+use Rattle.std.specs.{Prelude.{◌&&◌, ◌==◌, map, unwrap_or, if◌then◌else◌}, List.list_all}
+use Rattle.item_terms.specs.{Items.{Contents, contents, nothing}, Lines.{Line, lines, onto, size}, Words.begins_dash}
+use Rattle.item_terms.specs.Words.{is_blank, is_blank_line}
 use Rattle.blank_lines.specs.Blanks.{first_other}
 use Rattle.grammar_laws.proofs.ItemsAgain.{items_again}
 use Rattle.dirdoc_grammar.specs.Writing.{AreWritable, NewItem, all_written, in_front, is_open, items_text}
-use Rattle.frame_terms.specs.Documents.{Document, document_of, finish}
-use Rattle.frame_terms.specs.declared.fault.ReadRefusal.{ReadRefusal}
-use Rattle.frame_laws.proofs.Entries.{after_one, item_of}
-use Rattle.frame_laws.proofs.ReadRows.{Stand}
-use Rattle.frame_laws.proofs.WrittenRows.{is_closed, stand_written}
+use Rattle.frame_terms.specs.{Documents.{Document, document_of, finish}, declared.fault.ReadRefusal.ReadRefusal}
+use Rattle.frame_laws.proofs.{Entries.{after_one, item_of}, ReadRows.Stand, WrittenRows.{is_closed, stand_written}}
 use Rattle.descriptor_frame.specs.Tables.{descriptor_tables}
-use Rattle.descriptor_doc.specs.Heads.{kept_with, none_kept}
-use Rattle.descriptor_doc.specs.Descriptors.{descriptor_in}
-use Rattle.descriptor_doc.specs.Reading.{descriptor_behind, front_of, max_descriptor, with_descriptor}
+use Rattle.descriptor_doc.specs.{Heads.{kept_with, none_kept}, Descriptors.descriptor_in, Reading.descriptor_behind}
+use Rattle.descriptor_doc.specs.Reading.{front_of, max_descriptor, with_descriptor}
 use Rattle.descriptor_doc.specs.declared.descriptor.Descriptor.{Descriptor}
 use Rattle.descriptor_text.specs.Texts.{descriptor_items, descriptor_text}
-use Rattle.descriptor_laws.specs.Again.{DescriptorsAreReadAgain, as_written}
-use Rattle.descriptor_laws.specs.Ranges.{IsInRange}
-use Rattle.descriptor_laws.proofs.DescriptorKept.{descriptor_says}
-use Rattle.descriptor_laws.proofs.DescriptorRead.{all_of_it, document_read, last_place, others}
-use Rattle.descriptor_laws.proofs.DescriptorRows.{Says, router_entry, signature_entry}
-use Rattle.descriptor_laws.proofs.DescriptorSame.{descriptor_same, entries}
+use Rattle.descriptor_laws.specs.{Again.{DescriptorsAreReadAgain, as_written}, Ranges.IsInRange}
+use Rattle.descriptor_laws.proofs.{DescriptorKept.descriptor_says, DescriptorRead.{all_of_it, document_read}}
+use Rattle.descriptor_laws.proofs.{DescriptorRead.{last_place, others}, DescriptorRows.{Says, router_entry}}
+use Rattle.descriptor_laws.proofs.{DescriptorRows.signature_entry, DescriptorSame.{descriptor_same, entries}}
 use Rattle.descriptor_laws.proofs.DescriptorSays.{ends_at}
 
 -- its last item has an object, so that no other may follow

@@ -1,47 +1,34 @@
 -- What is read of a server descriptor is in range.
-use Rattle.std.proofs.Common.{◌≡◌, ℕ, ◌-◌, ◌≤◌, Bool, true, false, List, [], ◌∷◌, length, drop, Option, Some}
-use Rattle.std.proofs.Common.{None, refl, subst, arith, length-take, length-drop}
-use Rattle.std.specs.Prelude.{All, IfSome, filter_map, map, option_and_then, option_map, if◌then◌else◌}
-use Rattle.std.specs.List.{cons_option}
-use Rattle.std.proofs.lemmas.List.Elements.{All-cons, All-head, All-nil}
+use Rattle.std.proofs.Common.{◌≡◌, ℕ, ◌-◌, ◌≤◌, Bool, true, false, List, [], ◌∷◌, length, drop, Option, Some, None}
+use Rattle.std.proofs.{Common.{refl, subst, arith, length-take, length-drop}, lemmas.List.Elements.{All-cons, All-head}}
+use Rattle.std.{proofs.lemmas.List.Elements.All-nil, specs.Prelude.{All, IfSome, filter_map, map, option_and_then}}
+use Rattle.std.specs.{Prelude.{option_map, if◌then◌else◌}, List.cons_option}
 use Rattle.base64.specs.GeneralPurpose.{IsBytes}
 use Rattle.item_terms.specs.Items.{items_of}
 use Rattle.dirdoc_grammar.specs.Writing.{IsLineRest}
-use Rattle.frame_terms.specs.Documents.{group}
-use Rattle.frame_terms.specs.Keywords.{same}
-use Rattle.frame_terms.specs.Rows.{row}
-use Rattle.frame_terms.specs.Sections.{row_of}
-use Rattle.frame_terms.specs.declared.document.Group.{Group}
-use Rattle.frame_terms.specs.declared.keyword.Keyword.{Keyword}
+use Rattle.frame_terms.specs.{Documents.group, Keywords.same, Rows.row, Sections.row_of, declared.document.Group.Group}
+use Rattle.frame_terms.specs.declared.{keyword.Keyword.Keyword, row.Count.TheVariants.{Many, One, Optional}}
 use Rattle.frame_terms.specs.declared.keyword.Keyword.TheVariants as the
-use Rattle.frame_terms.specs.declared.row.Count.TheVariants.{Many, One, Optional}
-use Rattle.frame_values.specs.Parts.{bytes_in, part}
-use Rattle.frame_values.specs.Values.{item_at, text_if, text_of_value}
+use Rattle.frame_values.specs.{Parts.{bytes_in, part}, Values.{item_at, text_if, text_of_value}}
 use Rattle.frame_values.specs.declared.found.Span.{Span}
 use Rattle.frame_values.specs.declared.values.Value.TheVariants as value
-use Rattle.document_laws.specs.Items.{AreItemsIn}
-use Rattle.document_laws.proofs.Taking.{are_said}
+use Rattle.document_laws.{specs.Items.AreItemsIn, proofs.Taking.are_said}
 use Rattle.vote_laws.proofs.Digests.{twenty}
 use Rattle.group_laws.specs.Ranges.{AreThirtyTwo, IsAddressInRange}
-use Rattle.descriptor_frame.specs.Tables.{descriptor_tables, rows}
+use Rattle.descriptor_frame.specs.{Tables.{descriptor_tables, rows}, declared.said.DescriptorValue.DescriptorValue}
 use Rattle.descriptor_frame.specs.declared.said.DescriptorKind.TheVariants as kind
-use Rattle.descriptor_frame.specs.declared.said.DescriptorValue.{DescriptorValue}
 use Rattle.descriptor_frame.specs.declared.said.DescriptorValue.TheVariants as own
-use Rattle.descriptor_doc.specs.Descriptors.{certificate_in, descriptor_in, signed_part}
-use Rattle.descriptor_doc.specs.Heads.{kept_of}
-use Rattle.descriptor_doc.specs.Reading.{front_of, max_descriptor}
+use Rattle.descriptor_doc.specs.{Descriptors.{certificate_in, descriptor_in, signed_part}, Heads.kept_of}
+use Rattle.descriptor_doc.specs.{Reading.{front_of, max_descriptor}, declared.descriptor.Descriptor.Descriptor}
 use Rattle.descriptor_doc.specs.Saying as says
-use Rattle.descriptor_doc.specs.declared.descriptor.Descriptor.{Descriptor}
 use Rattle.descriptor_parts.proofs.DescriptorDocument.{DescriptorTaken, IsReadOf, Said, of_section}
-use Rattle.descriptor_parts.proofs.LastItem.{first_found}
-use Rattle.descriptor_parts.proofs.OfText.{IsOwn, is_own}
+use Rattle.descriptor_parts.proofs.{LastItem.first_found, OfText.{IsOwn, is_own}}
 use Rattle.range_laws.proofs.ValueTexts.{TextIs, text_ranged}
-use Rattle.row_laws.proofs.ReadBytes.{bytes_drop, bytes_take, object_bytes}
-use Rattle.row_laws.proofs.Saying.{all_sound, each_stands}
-use Rattle.descriptor_laws.specs.ReadRanges.{DescriptorsReadAreInRange, IsDescriptorInRange, IsShortAddress, IsShortRest}
-use Rattle.descriptor_laws.proofs.DescriptorReads.{EachDescriptorStands, IsRouter, RouterIs, address_says, item_says}
-use Rattle.descriptor_laws.proofs.DescriptorReads.{rest_says, router_says, stands_for}
-use Rattle.descriptor_laws.proofs.Signers.{signer_is}
+use Rattle.row_laws.proofs.{ReadBytes.{bytes_drop, bytes_take, object_bytes}, Saying.{all_sound, each_stands}}
+use Rattle.descriptor_laws.specs.ReadRanges.{DescriptorsReadAreInRange, IsDescriptorInRange, IsShortAddress}
+use Rattle.descriptor_laws.{specs.ReadRanges.IsShortRest, proofs.DescriptorReads.{EachDescriptorStands, IsRouter}}
+use Rattle.descriptor_laws.proofs.DescriptorReads.{RouterIs, address_says, item_says, rest_says, router_says}
+use Rattle.descriptor_laws.proofs.{DescriptorReads.stands_for, Signers.signer_is}
 
 -- ---- texts that are short
 

@@ -1,40 +1,30 @@
 -- What is kept of a server descriptor that was written says what the descriptor says, with what is computed from its text.
-use Rattle.std.proofs.Common.{◌≡◌, ℕ, ◌+◌, List, [], ◌++◌, length, Option, Some, None, refl, ap, ◌∙◌}
-use Rattle.std.proofs.Common.{arith, length-append}
-use Rattle.std.specs.Prelude.{IfSome, option_map}
+use Rattle.std.proofs.Common.{◌≡◌, ℕ, ◌+◌, List, [], ◌++◌, length, Option, Some, None, refl, ap, ◌∙◌, arith}
+use Rattle.std.{proofs.Common.length-append, specs.Prelude.{IfSome, option_map}}
 use Rattle.sha1.specs.Sha1.{sha1}
 use Rattle.sha2.specs.Sha256.{sha256}
 use Rattle.dirdoc_grammar.specs.Writing.{items_text}
-use Rattle.frame_terms.specs.Keywords.{same, text_of}
-use Rattle.frame_terms.specs.Rows.{row}
-use Rattle.frame_terms.specs.declared.document.Taken.{Taken}
+use Rattle.frame_terms.specs.{Keywords.{same, text_of}, Rows.row, declared.document.Taken.Taken}
+use Rattle.frame_terms.specs.declared.row.{Count.TheVariants.Optional, Row.Row}
 use Rattle.frame_terms.specs.declared.keyword.Keyword.TheVariants as the
-use Rattle.frame_terms.specs.declared.row.Count.TheVariants.{Optional}
-use Rattle.frame_terms.specs.declared.row.Row.{Row}
 use Rattle.frame_values.specs.Values.{item_at, separator_in}
-use Rattle.frame_laws.proofs.ReadRows.{IsRead, Stand, item_of_row, place_of, row_read}
-use Rattle.frame_laws.proofs.RowValues.{moment_said, object_said, text_if_said}
+use Rattle.frame_laws.proofs.{ReadRows.{IsRead, Stand, item_of_row, place_of, row_read}, RowValues.moment_said}
+use Rattle.frame_laws.proofs.RowValues.{object_said, text_if_said}
 use Rattle.descriptor_frame.specs.declared.said.DescriptorKind.{DescriptorKind}
 use Rattle.descriptor_frame.specs.declared.said.DescriptorKind.TheVariants as kind
-use Rattle.descriptor_doc.specs.Descriptors.{descriptor_in, ed_prefix, ed_signature_in}
-use Rattle.descriptor_doc.specs.Heads.{head_of, kept_with, none_kept}
-use Rattle.descriptor_doc.specs.Reading.{max_descriptor}
-use Rattle.descriptor_doc.specs.Saying.{ItemIf, bandwidth_in, ed_signature_in as ed_said, fingerprint_if, hibernating_in}
-use Rattle.descriptor_doc.specs.Saying.{key_in, uptime_in}
-use Rattle.descriptor_doc.specs.declared.descriptor.Descriptor.{Descriptor}
-use Rattle.descriptor_doc.specs.declared.descriptor.EdSignature.{EdSignature}
+use Rattle.descriptor_doc.specs.{Descriptors.{descriptor_in, ed_prefix, ed_signature_in}, Heads.{head_of, kept_with}}
+use Rattle.descriptor_doc.specs.{Heads.none_kept, Reading.max_descriptor, Saying.{ItemIf, bandwidth_in}}
+use Rattle.descriptor_doc.specs.Saying.{ed_signature_in as ed_said, fingerprint_if, hibernating_in, key_in, uptime_in}
+use Rattle.descriptor_doc.specs.declared.descriptor.{Descriptor.Descriptor, EdSignature.EdSignature}
 use Rattle.descriptor_text.specs.Texts.{descriptor_text}
-use Rattle.descriptor_laws.specs.Again.{as_written, signature_as_written, unsigned_items}
-use Rattle.descriptor_laws.specs.Ranges.{AreBytes, SaysInRange}
-use Rattle.descriptor_laws.proofs.DescriptorRead.{all_of_it, back_all, back_place}
+use Rattle.descriptor_laws.specs.{Again.{as_written, signature_as_written, unsigned_items}, Ranges.AreBytes}
+use Rattle.descriptor_laws.{specs.Ranges.SaysInRange, proofs.DescriptorRead.{all_of_it, back_all, back_place}}
 use Rattle.descriptor_laws.proofs.DescriptorRows.{Says, ed_signature_entry, groups_entry, hibernating_entry, key_entry}
-use Rattle.descriptor_laws.proofs.DescriptorRows.{row_maybe, uptime_entry}
-use Rattle.descriptor_laws.proofs.DescriptorSame.{entries}
+use Rattle.descriptor_laws.proofs.{DescriptorRows.{row_maybe, uptime_entry}, DescriptorSame.entries}
 use Rattle.descriptor_laws.proofs.DescriptorSays.{back_read, ed_begins, ed_signed_is, front_read, policy_is, signed_is}
-use Rattle.descriptor_laws.proofs.DescriptorSays.{whole_is}
-use Rattle.descriptor_laws.proofs.DescriptorTexts.{ed_front}
-use Rattle.descriptor_laws.proofs.ValuesSaid.{addresses_said, certificate_said, family_said, key_object_said, mark_said}
-use Rattle.descriptor_laws.proofs.ValuesSaid.{ports_said, router_is_said, value_said}
+use Rattle.descriptor_laws.proofs.{DescriptorSays.whole_is, DescriptorTexts.ed_front, ValuesSaid.addresses_said}
+use Rattle.descriptor_laws.proofs.ValuesSaid.{certificate_said, family_said, key_object_said, mark_said, ports_said}
+use Rattle.descriptor_laws.proofs.ValuesSaid.{router_is_said, value_said}
 
 module _ (d : Descriptor) (are : SaysInRange d) (rest : List ℕ)
     (stand : Stand max_descriptor (descriptor_text d ++ rest) 0 (entries d)) where

@@ -1,29 +1,17 @@
 -- The parts of a server descriptor that is written, and what the table says of them.
-use Rattle.std.proofs.Common.{◌≡◌, ℕ, Bool, true, false, List, [], ◌∷◌, ◌++◌, None}
-use Rattle.std.proofs.Common.{refl, ◌∙◌, arith}
-use Rattle.std.specs.Prelude.{map, not, ◌&&◌}
-use Rattle.std.proofs.lemmas.Bool.{and_parts, not-true}
-use Rattle.frame_terms.specs.Keywords.{same}
-use Rattle.frame_terms.specs.Rows.{is_many}
-use Rattle.frame_terms.specs.Sections.{lacking_but, stands}
-use Rattle.frame_terms.specs.declared.document.Taken.{Taken}
+use Rattle.std.proofs.Common.{◌≡◌, ℕ, Bool, true, false, List, [], ◌∷◌, ◌++◌, None, refl, ◌∙◌, arith}
+use Rattle.std.{proofs.lemmas.Bool.{and_parts, not-true}, specs.Prelude.{map, not, ◌&&◌}}
+use Rattle.frame_terms.specs.{Keywords.same, Rows.is_many, Sections.{lacking_but, stands}}
+use Rattle.frame_terms.specs.declared.{document.Taken.Taken, row.Row.Row}
 use Rattle.frame_terms.specs.declared.keyword.Keyword.TheVariants as the
-use Rattle.frame_terms.specs.declared.row.Row.{Row}
-use Rattle.frame_laws.proofs.Entries.{after_one, all_taken, taken_at}
-use Rattle.frame_laws.proofs.Following.{IsFirst}
-use Rattle.frame_laws.proofs.KnownWords.{same-sym}
-use Rattle.frame_laws.proofs.MoreRows.{AreInTable}
-use Rattle.frame_laws.proofs.Places.{after_all}
-use Rattle.frame_laws.proofs.SaidRows.{are_apart, entries_of, lack, row_once, rows_of}
-use Rattle.frame_laws.proofs.Steps.{IsInTable, IsLastOf}
-use Rattle.frame_laws.proofs.TableRows.{are_plain, middle_in_table}
-use Rattle.descriptor_frame.specs.Tables.{descriptor_tables, rows}
-use Rattle.descriptor_frame.specs.declared.said.DescriptorKind.{DescriptorKind}
+use Rattle.frame_laws.proofs.{Entries.{after_one, all_taken, taken_at}, Following.IsFirst, KnownWords.same-sym}
+use Rattle.frame_laws.proofs.{MoreRows.AreInTable, Places.after_all, SaidRows.{are_apart, entries_of, lack, row_once}}
+use Rattle.frame_laws.proofs.{SaidRows.rows_of, Steps.{IsInTable, IsLastOf}, TableRows.{are_plain, middle_in_table}}
+use Rattle.descriptor_frame.specs.{Tables.{descriptor_tables, rows}, declared.said.DescriptorKind.DescriptorKind}
 use Rattle.descriptor_doc.specs.declared.descriptor.Descriptor.{Descriptor}
 use Rattle.descriptor_text.specs.Texts.{policy_keyword}
-use Rattle.descriptor_laws.proofs.DescriptorRows.{RowOf, Says, Written, back_rows, first_row, front_rows}
-use Rattle.descriptor_laws.proofs.DescriptorRows.{last_row, policy_entry, policy_row, router_entry}
-use Rattle.descriptor_laws.proofs.DescriptorRows.{signature_entry}
+use Rattle.descriptor_laws.proofs.DescriptorRows.{RowOf, Says, Written, back_rows, first_row, front_rows, last_row}
+use Rattle.descriptor_laws.proofs.DescriptorRows.{policy_entry, policy_row, router_entry, signature_entry}
 use Rattle.descriptor_laws.proofs.Mixed.{OfKinds, each_lacks, in_table_back, in_table_front}
 
 -- ---- its parts

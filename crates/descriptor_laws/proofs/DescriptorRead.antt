@@ -1,45 +1,27 @@
 -- The items of a server descriptor that was written make a document, whatever follows them.
-use Rattle.std.proofs.Common.{◌≡◌, ℕ, Bool, true, false, List, [], ◌∷◌, ◌++◌, length, Option, None, Ok}
-use Rattle.std.proofs.Common.{refl, ap, ◌∙◌}
-use Rattle.std.specs.Prelude.{map, ◌||◌}
-use Rattle.std.proofs.lemmas.List.Folds.{list_any-append}
-use Rattle.item_terms.specs.Items.{Item}
-use Rattle.item_terms.specs.declared.fault.DocFault.{DocFault}
+use Rattle.std.proofs.Common.{◌≡◌, ℕ, Bool, true, false, List, [], ◌∷◌, ◌++◌, length, Option, None, Ok, refl, ap, ◌∙◌}
+use Rattle.std.{proofs.lemmas.List.Folds.list_any-append, specs.Prelude.{map, ◌||◌}}
+use Rattle.item_terms.specs.{Items.Item, declared.fault.DocFault.DocFault}
 use Rattle.dir_values.specs.declared.policy.PolicyItem.{PolicyItem}
 use Rattle.dirdoc_grammar.specs.Writing.{all_written, written}
-use Rattle.frame_terms.specs.Decisions.{made_by}
-use Rattle.frame_terms.specs.Documents.{group, read_items, start}
-use Rattle.frame_terms.specs.Keywords.{same}
-use Rattle.frame_terms.specs.Rows.{row}
-use Rattle.frame_terms.specs.Sections.{lacking_but, stands}
-use Rattle.frame_terms.specs.declared.document.Made.TheVariants.{Ends, Pushes}
-use Rattle.frame_terms.specs.declared.document.Taken.{Taken}
-use Rattle.frame_terms.specs.declared.keyword.Keyword.{Keyword}
+use Rattle.frame_terms.specs.{Decisions.made_by, Documents.{group, read_items, start}, Keywords.same, Rows.row}
+use Rattle.frame_terms.specs.{Sections.{lacking_but, stands}, declared.document.Made.TheVariants.{Ends, Pushes}}
+use Rattle.frame_terms.specs.declared.{document.Taken.Taken, keyword.Keyword.Keyword, row.Count.TheVariants.One}
 use Rattle.frame_terms.specs.declared.keyword.Keyword.TheVariants as the
-use Rattle.frame_terms.specs.declared.row.Count.TheVariants.{One}
-use Rattle.frame_laws.proofs.Both.{both_hold}
-use Rattle.frame_laws.proofs.Entries.{after_one, all_taken, item_of, taken_at}
-use Rattle.frame_laws.proofs.Following.{first_made}
-use Rattle.frame_laws.proofs.Limits.{fits}
-use Rattle.frame_laws.proofs.MoreRows.{NoneStand, none_after, none_before, rows_more, more_both}
-use Rattle.frame_laws.proofs.Places.{all_taken-append, both_written}
-use Rattle.frame_laws.proofs.ReadRows.{Each, IsTaken, each_taken, of_row, place_of}
-use Rattle.frame_laws.proofs.RowValues.{moment_entry}
-use Rattle.frame_laws.proofs.Reading.{AreMore, read_on, takes_more}
-use Rattle.frame_laws.proofs.Remembered.{notes_nothing}
-use Rattle.frame_laws.proofs.RowCounts.{counted_both, counted_once}
-use Rattle.frame_laws.proofs.SaidRows.{AreCounted, counted, entries_of, row_none, row_once}
-use Rattle.frame_laws.proofs.Steps.{last_of, made_by-later, opening}
+use Rattle.frame_laws.proofs.{Both.both_hold, Entries.{after_one, all_taken, item_of, taken_at}, Following.first_made}
+use Rattle.frame_laws.proofs.{Limits.fits, MoreRows.{NoneStand, none_after, none_before, rows_more, more_both}}
+use Rattle.frame_laws.proofs.{Places.{all_taken-append, both_written}, ReadRows.{Each, IsTaken, each_taken, of_row}}
+use Rattle.frame_laws.proofs.{ReadRows.place_of, RowValues.moment_entry, Reading.{AreMore, read_on, takes_more}}
+use Rattle.frame_laws.proofs.{Remembered.notes_nothing, RowCounts.{counted_both, counted_once}, SaidRows.AreCounted}
+use Rattle.frame_laws.proofs.{SaidRows.{counted, entries_of, row_none, row_once}, Steps.{last_of, made_by-later}}
+use Rattle.frame_laws.proofs.Steps.{opening}
 use Rattle.descriptor_frame.specs.Tables.{descriptor_tables, rows}
 use Rattle.descriptor_frame.specs.declared.said.DescriptorKind.TheVariants as kind
 use Rattle.descriptor_doc.specs.declared.descriptor.Descriptor.{Descriptor}
-use Rattle.descriptor_laws.specs.Ranges.{IsItemInRange, SaysInRange}
-use Rattle.descriptor_laws.proofs.DescriptorRows.{RowOf, Says, back_rows, first_row, front_rows}
-use Rattle.descriptor_laws.proofs.DescriptorRows.{bandwidth_entry, key_object}
-use Rattle.descriptor_laws.proofs.DescriptorRows.{last_row, policy_entry, policy_row, router_entry}
-use Rattle.descriptor_laws.proofs.DescriptorRows.{signature_entry}
-use Rattle.descriptor_laws.proofs.Mixed.{mixed_more, none_of_both}
-use Rattle.descriptor_laws.proofs.Mixed.{none_of_mixed, none_of_others, stands_once}
+use Rattle.descriptor_laws.{specs.Ranges.{IsItemInRange, SaysInRange}, proofs.DescriptorRows.{RowOf, Says, back_rows}}
+use Rattle.descriptor_laws.proofs.DescriptorRows.{first_row, front_rows, bandwidth_entry, key_object, last_row}
+use Rattle.descriptor_laws.proofs.DescriptorRows.{policy_entry, policy_row, router_entry, signature_entry}
+use Rattle.descriptor_laws.proofs.Mixed.{mixed_more, none_of_both, none_of_mixed, none_of_others, stands_once}
 use Rattle.descriptor_laws.proofs.RowsSaid.{back_said, front_said, suits_policy, suits_router, suits_signature}
 pub use Rattle.descriptor_laws.proofs.DescriptorParts.{back_all, back_apart, back_lacks, back_place, begins_it}
 pub use Rattle.descriptor_laws.proofs.DescriptorParts.{behind_in, ends_it, first_taken, front_all, front_apart}

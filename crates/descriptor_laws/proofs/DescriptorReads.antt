@@ -1,37 +1,26 @@
 -- What the items of a server descriptor say is in range, by the kinds of their rows.
-use Rattle.std.proofs.Common.{◌≡◌, ℕ, ◌<◌, ◌≤◌, ◌^◌, true, List, Option, Some, None, Result, Ok, refl, subst}
-use Rattle.std.proofs.Common.{sym}
+use Rattle.std.proofs.Common.{◌≡◌, ℕ, ◌<◌, ◌≤◌, ◌^◌, true, List, Option, Some, None, Result, Ok, refl, subst, sym}
 use Rattle.std.specs.Prelude.{IfSome}
 use Rattle.item_terms.specs.Items.{Item}
 use Rattle.dir_bytes.specs.Fields.{address}
-use Rattle.dir_values.specs.Names.{is_nickname}
-use Rattle.dir_values.specs.Numbers.{port_of}
+use Rattle.dir_values.specs.{Names.is_nickname, Numbers.port_of}
 use Rattle.dirdoc_grammar.specs.Writing.{IsLineRest}
-use Rattle.frame_terms.specs.Keywords.{same}
-use Rattle.frame_terms.specs.Sections.{row_of}
-use Rattle.frame_terms.specs.declared.keyword.Keyword.{Keyword}
-use Rattle.frame_terms.specs.declared.row.Row.{Row}
-use Rattle.frame_values.specs.Arguments.{arguments_of, field, front, next, others}
-use Rattle.frame_values.specs.Fields.{span_if}
-use Rattle.frame_values.specs.Parts.{part}
-use Rattle.frame_values.specs.Values.{item_at}
-use Rattle.frame_values.specs.declared.found.Span.{Span}
+use Rattle.frame_terms.specs.{Keywords.same, Sections.row_of, declared.{keyword.Keyword.Keyword, row.Row.Row}}
+use Rattle.frame_values.specs.{Arguments.{arguments_of, field, front, next, others}, Fields.span_if, Parts.part}
+use Rattle.frame_values.specs.{Values.item_at, declared.found.Span.Span}
 use Rattle.frame_values.specs.declared.values.Value.TheVariants as value
 use Rattle.frame_laws.proofs.StandingParts.{rest_part}
 use Rattle.relay_entries.specs.Fields as of_entries
 use Rattle.group_laws.specs.Ranges.{IsAddressInRange}
 use Rattle.descriptor_frame.specs.Fields as of_descriptors
-use Rattle.descriptor_frame.specs.Lines.{address_of, router_of, value_at}
-use Rattle.descriptor_frame.specs.Tables.{descriptor_tables, rows}
-use Rattle.descriptor_frame.specs.declared.said.DescriptorKind.{DescriptorKind}
+use Rattle.descriptor_frame.specs.{Lines.{address_of, router_of, value_at}, Tables.{descriptor_tables, rows}}
+use Rattle.descriptor_frame.specs.declared.said.{DescriptorKind.DescriptorKind, RouterLine.RouterLine}
 use Rattle.descriptor_frame.specs.declared.said.DescriptorKind.TheVariants as kind
 use Rattle.descriptor_frame.specs.declared.said.DescriptorValue.TheVariants as own
-use Rattle.descriptor_frame.specs.declared.said.RouterLine.{RouterLine}
 use Rattle.descriptor_parts.proofs.DescriptorDocument.{DescriptorTaken, Said}
-use Rattle.range_laws.proofs.ValueTexts.{TextIs}
-use Rattle.row_laws.proofs.ItemArguments.{IsSound, are_found}
-use Rattle.row_laws.proofs.ReadSteps.{ReadAs, next_reads, placed, was_read}
-use Rattle.range_laws.proofs.RelayReads.{IsAddressAt, IsNickname, address_reads, ip_reads, nickname_reads, port_reads}
+use Rattle.range_laws.proofs.{ValueTexts.TextIs, RelayReads.{IsAddressAt, IsNickname, address_reads, ip_reads}}
+use Rattle.range_laws.proofs.RelayReads.{nickname_reads, port_reads}
+use Rattle.row_laws.proofs.{ItemArguments.{IsSound, are_found}, ReadSteps.{ReadAs, next_reads, placed, was_read}}
 use Rattle.row_laws.proofs.Saying.{EachStands, Says, Stands, found, of_row}
 
 -- an item of this kind of a descriptor says this

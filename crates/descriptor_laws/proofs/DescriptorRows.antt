@@ -1,34 +1,24 @@
 -- A server descriptor, row by row of its table: the items of its exit policy stand in their order between the others.
-use Rattle.std.proofs.Common.{ℕ, Bool, List, [], ◌∷◌, Option, Some, None}
-use Rattle.std.specs.Prelude.{codes, decimal, if◌then◌else◌}
+use Rattle.std.{proofs.Common.{ℕ, Bool, List, [], ◌∷◌, Option, Some, None}, specs.Prelude.{codes, decimal}}
+use Rattle.std.specs.Prelude.{if◌then◌else◌}
 use Rattle.dir_bytes.specs.FieldTexts.{base64_text}
-use Rattle.dir_values.specs.Ports.{Ports, summary_text}
-use Rattle.dir_values.specs.declared.digest.Fingerprint.{Fingerprint as Identity}
+use Rattle.dir_values.specs.{Ports.{Ports, summary_text}, declared.digest.Fingerprint.Fingerprint as Identity}
 use Rattle.dir_values.specs.declared.policy.PolicyItem.{PolicyItem}
-use Rattle.descriptor_frame.specs.declared.certificate.EdCert.{EdCert}
-use Rattle.frame_terms.specs.Rows.{row}
-use Rattle.frame_terms.specs.declared.keyword.Keyword.{Keyword}
-use Rattle.frame_terms.specs.declared.keyword.Keyword.TheVariants as the
-use Rattle.frame_terms.specs.declared.row.Count.TheVariants.{One, Optional, Many}
+use Rattle.descriptor_frame.specs.declared.{certificate.EdCert.EdCert, said.BandwidthLine.BandwidthLine}
+use Rattle.descriptor_frame.specs.declared.said.{DescriptorKind.DescriptorKind, DescriptorValue.DescriptorValue}
+use Rattle.frame_terms.specs.{Rows.row, declared.{keyword.Keyword.Keyword, row.Count.TheVariants.{One, Optional, Many}}}
 use Rattle.frame_terms.specs.declared.row.Row.{Row}
+use Rattle.frame_terms.specs.declared.keyword.Keyword.TheVariants as the
 use Rattle.frame_values.specs.declared.values.Value.{Value}
 use Rattle.frame_values.specs.declared.values.Value.TheVariants as value
-use Rattle.frame_laws.proofs.Entries.{Entry}
-use Rattle.frame_laws.proofs.RowValues.{moment_entry, object_entry, own_entry, row_each, row_if, silent_entry}
-use Rattle.frame_laws.proofs.RowValues.{text_entry}
-use Rattle.frame_laws.proofs.SaidRows.{RowSays, row_once}
+use Rattle.frame_laws.proofs.{Entries.Entry, RowValues.{moment_entry, object_entry, own_entry, row_each, row_if}}
+use Rattle.frame_laws.proofs.{RowValues.{silent_entry, text_entry}, SaidRows.{RowSays, row_once}}
 use Rattle.exit_summary.specs.Texts.{item_text}
-use Rattle.descriptor_frame.specs.declared.said.BandwidthLine.{BandwidthLine}
-use Rattle.descriptor_frame.specs.declared.said.DescriptorKind.{DescriptorKind}
 use Rattle.descriptor_frame.specs.declared.said.DescriptorKind.TheVariants as kind
-use Rattle.descriptor_frame.specs.declared.said.DescriptorValue.{DescriptorValue}
 use Rattle.descriptor_frame.specs.declared.said.DescriptorValue.TheVariants as own
-use Rattle.descriptor_doc.specs.declared.descriptor.Descriptor.{Descriptor}
-use Rattle.descriptor_doc.specs.declared.descriptor.EdSignature.{EdSignature}
-use Rattle.descriptor_doc.specs.declared.descriptor.Router.{Router}
+use Rattle.descriptor_doc.specs.declared.descriptor.{Descriptor.Descriptor, EdSignature.EdSignature, Router.Router}
 use Rattle.descriptor_text.specs.Lines.{bandwidth_text, ed_signature_text, family_text, groups_text, hibernating_text}
-use Rattle.descriptor_text.specs.Lines.{router_text}
-use Rattle.descriptor_text.specs.Texts.{certificate_bytes, policy_keyword, rsa_words}
+use Rattle.descriptor_text.specs.{Lines.router_text, Texts.{certificate_bytes, policy_keyword, rsa_words}}
 use Rattle.descriptor_laws.specs.Lines.{rest_start, router_at}
 
 -- what an item says

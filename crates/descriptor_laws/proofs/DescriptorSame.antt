@@ -1,31 +1,26 @@
 -- The items of a server descriptor's text are those of its rows.
 use Rattle.std.proofs.Common.{◌≡◌, ℕ, Bool, true, false, List, [], ◌∷◌, ◌++◌, Option, Some, None, refl, sym, ap, ◌∙◌}
-use Rattle.std.proofs.Common.{append_assoc, append-nil}
-use Rattle.std.specs.Prelude.{codes, decimal, map, option_map}
-use Rattle.std.proofs.lemmas.List.{map-append}
+use Rattle.std.{proofs.{Common.{append_assoc, append-nil}, lemmas.List.map-append}, specs.Prelude.{codes, decimal, map}}
+use Rattle.std.specs.Prelude.{option_map}
 use Rattle.dir_bytes.specs.FieldTexts.{base64_text}
-use Rattle.dir_values.specs.Ports.{summary_text}
-use Rattle.dir_values.specs.declared.policy.PolicyItem.{PolicyItem}
+use Rattle.dir_values.specs.{Ports.summary_text, declared.policy.PolicyItem.PolicyItem}
 use Rattle.dirdoc_grammar.specs.Writing.{NewItem}
-use Rattle.descriptor_frame.specs.declared.certificate.EdCert.{EdCert}
+use Rattle.descriptor_frame.specs.declared.{certificate.EdCert.EdCert, said.DescriptorValue.DescriptorValue}
 use Rattle.frame_terms.specs.declared.keyword.Keyword.{Keyword}
 use Rattle.frame_terms.specs.declared.keyword.Keyword.TheVariants as the
 use Rattle.frame_values.specs.Items.{bare, item_if}
-use Rattle.frame_laws.proofs.Entries.{item_of}
-use Rattle.frame_laws.proofs.RowValues.{items_if, moment_entry, text_entry, text_entry_if}
+use Rattle.frame_laws.proofs.{Entries.item_of, RowValues.{items_if, moment_entry, text_entry, text_entry_if}}
 use Rattle.frame_laws.proofs.SaidRows.{entries_of}
-use Rattle.descriptor_frame.specs.declared.said.DescriptorValue.{DescriptorValue}
 use Rattle.descriptor_doc.specs.declared.descriptor.Descriptor.{Descriptor}
 use Rattle.descriptor_text.specs.Lines.{ed_signature_text, family_text, groups_text, hibernating_text}
 use Rattle.descriptor_text.specs.Texts.{address_items, certificate_bytes, descriptor_items, exit_items, front_items}
-use Rattle.descriptor_text.specs.Texts.{mark_if, object_if, policy_item, rsa_words}
-use Rattle.descriptor_text.specs.Texts.{service_items}
-use Rattle.descriptor_laws.specs.Again.{ed_signature_items, unsigned_items}
-use Rattle.descriptor_laws.proofs.DescriptorRead.{front_all, others, policy_entries}
-use Rattle.descriptor_laws.proofs.DescriptorRows.{Written, bandwidth_entry, certificate_entry, ed_signature_entry}
-use Rattle.descriptor_laws.proofs.DescriptorRows.{entries_if, family_entry, groups_entry, hibernating_entry}
-use Rattle.descriptor_laws.proofs.DescriptorRows.{key_entry, key_object, marks_if, policy_entry, ports_entry, router_entry}
-use Rattle.descriptor_laws.proofs.DescriptorRows.{signature_entry, uptime_entry}
+use Rattle.descriptor_text.specs.Texts.{mark_if, object_if, policy_item, rsa_words, service_items}
+use Rattle.descriptor_laws.{specs.Again.{ed_signature_items, unsigned_items}, proofs.DescriptorRead.{front_all, others}}
+use Rattle.descriptor_laws.proofs.{DescriptorRead.policy_entries, DescriptorRows.{Written, bandwidth_entry}}
+use Rattle.descriptor_laws.proofs.DescriptorRows.{certificate_entry, ed_signature_entry, entries_if, family_entry}
+use Rattle.descriptor_laws.proofs.DescriptorRows.{groups_entry, hibernating_entry, key_entry, key_object, marks_if}
+use Rattle.descriptor_laws.proofs.DescriptorRows.{policy_entry, ports_entry, router_entry, signature_entry}
+use Rattle.descriptor_laws.proofs.DescriptorRows.{uptime_entry}
 
 -- ---- an item where there is a value
 

@@ -1,50 +1,37 @@
 -- What is kept of a server descriptor that was written says what the descriptor says.
-use Rattle.std.proofs.Common.{◌≡◌, ℕ, ◌+◌, List, [], ◌∷◌, ◌++◌, length, take, drop, Some, refl, sym, ap, ◌∙◌}
-use Rattle.std.proofs.Common.{subst, append_assoc, append-nil, arith, length-append}
-use Rattle.std.specs.Prelude.{filter_map, map, slice_range}
-use Rattle.std.proofs.lemmas.List.{take_at}
-use Rattle.std.proofs.lemmas.List.Elements.{filter-append, filter_map-append}
+use Rattle.std.proofs.Common.{◌≡◌, ℕ, ◌+◌, List, [], ◌∷◌, ◌++◌, length, take, drop, Some, refl, sym, ap, ◌∙◌, subst}
+use Rattle.std.proofs.{Common.{append_assoc, append-nil, arith, length-append}, lemmas.List.take_at}
+use Rattle.std.{proofs.lemmas.List.Elements.{filter-append, filter_map-append}, specs.Prelude.{filter_map, map}}
+use Rattle.std.specs.Prelude.{slice_range}
 use Rattle.dir_values.specs.declared.policy.PolicyItem.{PolicyItem}
 use Rattle.dirdoc_grammar.specs.Writing.{NewItem, items_text}
-use Rattle.frame_terms.specs.Keywords.{same, text_of}
-use Rattle.frame_terms.specs.declared.document.Taken.{Taken}
+use Rattle.frame_terms.specs.{Keywords.{same, text_of}, declared.document.Taken.Taken}
 use Rattle.frame_terms.specs.declared.keyword.Keyword.TheVariants as the
 use Rattle.frame_values.specs.Values.{after_in, item_at, line_end_in}
-use Rattle.frame_laws.proofs.Both.{both_hold}
-use Rattle.frame_laws.proofs.Entries.{after_one, all_taken, item_of}
-use Rattle.frame_laws.proofs.MoreRows.{none_before}
-use Rattle.frame_laws.proofs.Places.{after_all, after_all-append, after_all-same, all_taken-append}
-use Rattle.frame_laws.proofs.ReadRows.{AreRead, Each, IsTaken, Stand, all_at, both_stand, each_taken, first_if}
-use Rattle.frame_laws.proofs.ReadRows.{item_at-first, none_at, place_of}
-use Rattle.frame_laws.proofs.RowCounts.{entries_of-append}
-use Rattle.frame_laws.proofs.RowValues.{text_entry, text_entry_if}
-use Rattle.frame_laws.proofs.SaidRows.{entries_of, items_at, row_once}
-use Rattle.frame_laws.proofs.StandingParts.{between_stands, front_stands}
-use Rattle.frame_laws.proofs.WrittenRows.{from_place}
-use Rattle.descriptor_doc.specs.Descriptors.{ed_signed_part, signed_part, through_space}
-use Rattle.descriptor_doc.specs.Descriptors.{whole_part}
-use Rattle.descriptor_doc.specs.Heads.{head_of}
-use Rattle.descriptor_doc.specs.Reading.{max_descriptor}
-use Rattle.descriptor_doc.specs.Saying.{ItemIf}
-use Rattle.descriptor_doc.specs.Saying.{policy_if}
-use Rattle.descriptor_doc.specs.declared.descriptor.Descriptor.{Descriptor}
-use Rattle.descriptor_doc.specs.declared.descriptor.EdSignature.{EdSignature}
+use Rattle.frame_laws.proofs.{Both.both_hold, Entries.{after_one, all_taken, item_of}, MoreRows.none_before}
+use Rattle.frame_laws.proofs.{Places.{after_all, after_all-append, after_all-same, all_taken-append}, ReadRows.AreRead}
+use Rattle.frame_laws.proofs.ReadRows.{Each, IsTaken, Stand, all_at, both_stand, each_taken, first_if, item_at-first}
+use Rattle.frame_laws.proofs.{ReadRows.{none_at, place_of}, RowCounts.entries_of-append, RowValues.text_entry}
+use Rattle.frame_laws.proofs.{RowValues.text_entry_if, SaidRows.{entries_of, items_at, row_once}}
+use Rattle.frame_laws.proofs.{StandingParts.{between_stands, front_stands}, WrittenRows.from_place}
+use Rattle.descriptor_doc.specs.{Descriptors.{ed_signed_part, signed_part, through_space, whole_part}, Heads.head_of}
+use Rattle.descriptor_doc.specs.{Reading.max_descriptor, Saying.{ItemIf, policy_if}}
+use Rattle.descriptor_doc.specs.declared.descriptor.{Descriptor.Descriptor, EdSignature.EdSignature}
 use Rattle.descriptor_text.specs.Texts.{descriptor_text}
-use Rattle.descriptor_laws.specs.Again.{ed_signed_text, signed_text, unsigned_items}
-use Rattle.descriptor_laws.specs.Ranges.{AreBytes, SaysInRange}
-use Rattle.descriptor_laws.proofs.DescriptorRead.{all_of_it, back_all, back_all_counted, back_apart, back_lacks, back_place}
-use Rattle.descriptor_laws.proofs.DescriptorRead.{before_last, front_all, front_counted, front_each, front_lacks, front_taken}
-use Rattle.descriptor_laws.proofs.DescriptorRead.{last_place, last_taken, none_of_last, of_policy, others, policy_entries}
-use Rattle.descriptor_laws.proofs.DescriptorRead.{policy_place, policy_rows, policy_taken}
-use Rattle.descriptor_laws.proofs.DescriptorRows.{Says, Written, back_rows, certificate_entry, ed_signature_entry, family_entry}
-use Rattle.descriptor_laws.proofs.DescriptorRows.{entries_if, key_object}
-use Rattle.descriptor_laws.proofs.DescriptorRows.{groups_entry, hibernating_entry, key_entry, last_row, marks_if, policy_entry}
-use Rattle.descriptor_laws.proofs.DescriptorRows.{ports_entry, router_entry, signature_entry, uptime_entry}
-use Rattle.descriptor_laws.proofs.DescriptorSame.{descriptor_same, entries, unsigned_entries, unsigned_same}
-use Rattle.descriptor_laws.proofs.DescriptorTexts.{ed_back, ed_front, ed_parts, front_text, last_begins, last_object}
-use Rattle.descriptor_laws.proofs.DescriptorTexts.{signed_length, whole_parts}
-use Rattle.descriptor_laws.proofs.Mixed.{each_stands, none_of_both, none_of_mixed, none_of_others, taken_among}
-use Rattle.descriptor_laws.proofs.ValuesSaid.{EachQuiet}
+use Rattle.descriptor_laws.specs.{Again.{ed_signed_text, signed_text, unsigned_items}, Ranges.{AreBytes, SaysInRange}}
+use Rattle.descriptor_laws.proofs.DescriptorRead.{all_of_it, back_all, back_all_counted, back_apart, back_lacks}
+use Rattle.descriptor_laws.proofs.DescriptorRead.{back_place, before_last, front_all, front_counted, front_each}
+use Rattle.descriptor_laws.proofs.DescriptorRead.{front_lacks, front_taken, last_place, last_taken, none_of_last}
+use Rattle.descriptor_laws.proofs.DescriptorRead.{of_policy, others, policy_entries, policy_place, policy_rows}
+use Rattle.descriptor_laws.proofs.{DescriptorRead.policy_taken, DescriptorRows.{Says, Written, back_rows}}
+use Rattle.descriptor_laws.proofs.DescriptorRows.{certificate_entry, ed_signature_entry, family_entry, entries_if}
+use Rattle.descriptor_laws.proofs.DescriptorRows.{key_object, groups_entry, hibernating_entry, key_entry, last_row}
+use Rattle.descriptor_laws.proofs.DescriptorRows.{marks_if, policy_entry, ports_entry, router_entry, signature_entry}
+use Rattle.descriptor_laws.proofs.{DescriptorRows.uptime_entry, DescriptorSame.{descriptor_same, entries}}
+use Rattle.descriptor_laws.proofs.{DescriptorSame.{unsigned_entries, unsigned_same}, DescriptorTexts.ed_back}
+use Rattle.descriptor_laws.proofs.DescriptorTexts.{ed_front, ed_parts, front_text, last_begins, last_object}
+use Rattle.descriptor_laws.proofs.{DescriptorTexts.{signed_length, whole_parts}, Mixed.{each_stands, none_of_both}}
+use Rattle.descriptor_laws.proofs.{Mixed.{none_of_mixed, none_of_others, taken_among}, ValuesSaid.EachQuiet}
 use Rattle.descriptor_laws.proofs.ValuesSaid.{policy_said, quiet_each, quiet_if, quiet_mark, quiet_rows, quiet_text}
 
 -- ---- what its rows have of it

@@ -1,25 +1,16 @@
 -- The parts of a server descriptor's text.
 use Rattle.std.proofs.Common.{◌≡◌, ℕ, ◌+◌, ◌<◌, List, [], ◌∷◌, ◌++◌, length, Option, Some, refl, sym, ap, ◌∙◌}
-use Rattle.std.proofs.Common.{append_assoc, arith, length-append}
-use Rattle.std.specs.Prelude.{codes, map, option_map}
-use Rattle.dir_bytes.specs.FieldTexts.{base64_text}
-use Rattle.dir_bytes.proofs.Spelling.{length-base64_text}
-use Rattle.dirdoc_grammar.specs.Bodies.{object_text}
-use Rattle.dirdoc_grammar.specs.Writing.{NewItem, item_text, items_text, tail}
+use Rattle.std.{proofs.Common.{append_assoc, arith, length-append}, specs.Prelude.{codes, map, option_map}}
+use Rattle.dir_bytes.{specs.FieldTexts.base64_text, proofs.Spelling.length-base64_text}
+use Rattle.dirdoc_grammar.specs.{Bodies.object_text, Writing.{NewItem, item_text, items_text, tail}}
 use Rattle.frame_terms.specs.Keywords.{text_of}
 use Rattle.frame_terms.specs.declared.keyword.Keyword.TheVariants as the
-use Rattle.frame_values.specs.Items.{bare, item_if}
-use Rattle.frame_values.proofs.ItemsTexts.{sections}
-use Rattle.frame_laws.proofs.Entries.{item_of}
-use Rattle.frame_laws.proofs.Places.{after_all-same}
-use Rattle.descriptor_doc.specs.declared.descriptor.Descriptor.{Descriptor}
-use Rattle.descriptor_doc.specs.declared.descriptor.EdSignature.{EdSignature}
-use Rattle.descriptor_text.specs.Lines.{ed_signature_text}
-use Rattle.descriptor_text.specs.Texts.{descriptor_text}
-use Rattle.descriptor_laws.specs.Again.{ed_signature_items, signed_text, unsigned_items}
-use Rattle.descriptor_laws.specs.Ranges.{AreBytes}
-use Rattle.descriptor_laws.proofs.DescriptorRead.{last_place, others}
-use Rattle.descriptor_laws.proofs.DescriptorRows.{router_entry, signature_entry}
+use Rattle.frame_values.{specs.Items.{bare, item_if}, proofs.ItemsTexts.sections}
+use Rattle.frame_laws.proofs.{Entries.item_of, Places.after_all-same}
+use Rattle.descriptor_doc.specs.declared.descriptor.{Descriptor.Descriptor, EdSignature.EdSignature}
+use Rattle.descriptor_text.specs.{Lines.ed_signature_text, Texts.descriptor_text}
+use Rattle.descriptor_laws.specs.{Again.{ed_signature_items, signed_text, unsigned_items}, Ranges.AreBytes}
+use Rattle.descriptor_laws.proofs.{DescriptorRead.{last_place, others}, DescriptorRows.{router_entry, signature_entry}}
 use Rattle.descriptor_laws.proofs.DescriptorSame.{before_items, items_parts}
 
 -- ---- what the signing key signs

@@ -1,54 +1,37 @@
 -- What is read of a server descriptor says what can be written.
-use Rattle.std.proofs.Common.{◌≡◌, ℕ, ◌-◌, Bool, true, false, List, [], length, Option, Some, None}
-use Rattle.std.proofs.Common.{refl, sym, ap, subst, ◌∙◌, arith}
+use Rattle.std.proofs.Common.{◌≡◌, ℕ, ◌-◌, Bool, true, false, List, [], length, Option, Some, None, refl, sym, ap}
+use Rattle.std.proofs.{Common.{subst, ◌∙◌, arith}, lemmas.List.{take-append-drop, Elements.{All-head, All-weaker}}}
 use Rattle.std.specs.Prelude.{All, IfSome, option_and_then, option_map, if◌then◌else◌}
-use Rattle.std.proofs.lemmas.List.{take-append-drop}
-use Rattle.std.proofs.lemmas.List.Elements.{All-head, All-weaker}
 use Rattle.base64.specs.GeneralPurpose.{IsBytes}
 use Rattle.item_terms.specs.Items.{items_of}
 use Rattle.descriptor_frame.specs.Certificates.{begins_well, certificate_of, signer_of, with_signer}
-use Rattle.descriptor_frame.specs.declared.certificate.EdCert.{EdCert}
-use Rattle.frame_terms.specs.Documents.{group}
-use Rattle.frame_terms.specs.Keywords.{same}
-use Rattle.frame_terms.specs.Rows.{row}
-use Rattle.frame_terms.specs.declared.document.Group.{Group}
-use Rattle.frame_terms.specs.declared.keyword.Keyword.TheVariants as the
+use Rattle.descriptor_frame.specs.declared.{certificate.EdCert.EdCert, said.DescriptorValue.DescriptorValue}
+use Rattle.descriptor_frame.specs.Tables.{descriptor_tables}
+use Rattle.frame_terms.specs.{Documents.group, Keywords.same, Rows.row, declared.document.Group.Group}
 use Rattle.frame_terms.specs.declared.row.Count.TheVariants.{One, Optional}
-use Rattle.frame_values.specs.Parts.{bytes_in, part}
-use Rattle.frame_values.specs.Ranges.{AreTwenty}
-use Rattle.frame_values.specs.Values.{item_at, text_if}
+use Rattle.frame_terms.specs.declared.keyword.Keyword.TheVariants as the
+use Rattle.frame_values.specs.{Parts.{bytes_in, part}, Ranges.AreTwenty, Values.{item_at, text_if}}
 use Rattle.frame_values.specs.declared.found.Span.{Span}
 use Rattle.frame_values.specs.declared.values.Value.TheVariants as value
-use Rattle.document_laws.specs.Items.{AreItemsIn}
-use Rattle.document_laws.proofs.Taking.{are_said}
-use Rattle.descriptor_frame.specs.Tables.{descriptor_tables}
+use Rattle.document_laws.{specs.Items.AreItemsIn, proofs.Taking.are_said}
 use Rattle.descriptor_frame.specs.declared.said.DescriptorKind.TheVariants as kind
-use Rattle.descriptor_frame.specs.declared.said.DescriptorValue.{DescriptorValue}
 use Rattle.descriptor_frame.specs.declared.said.DescriptorValue.TheVariants as own
 use Rattle.descriptor_doc.specs.Descriptors.{certificate_in, descriptor_in, ed_signature_in, ports_in, words_in}
-use Rattle.descriptor_doc.specs.Heads.{kept_of}
-use Rattle.descriptor_doc.specs.Reading.{max_descriptor}
-use Rattle.descriptor_doc.specs.Saying as says
-use Rattle.descriptor_doc.specs.declared.descriptor.Descriptor.{Descriptor}
+use Rattle.descriptor_doc.specs.{Heads.kept_of, Reading.max_descriptor, declared.descriptor.Descriptor.Descriptor}
 use Rattle.descriptor_doc.specs.declared.head.Head.{Head}
+use Rattle.descriptor_doc.specs.Saying as says
 use Rattle.descriptor_text.specs.Texts.{certificate_bytes}
 use Rattle.descriptor_laws.specs.Ranges.{AreBytes, IsAddressInRange, IsBandwidthInRange, IsCertificateInRange}
-use Rattle.descriptor_laws.specs.Ranges.{SaysInRange}
-use Rattle.descriptor_parts.proofs.DescriptorDocument.{DescriptorTaken, IsReadOf, Said, of_section}
-use Rattle.descriptor_parts.proofs.OfText.{is_own}
-use Rattle.descriptor_laws.specs.ReadRanges.{IsDescriptorInRange, IsShortAddress}
-use Rattle.descriptor_laws.proofs.DescriptorInRange.{descriptors_in_range, text_bytes}
-use Rattle.descriptor_laws.proofs.DescriptorReads.{item_says}
+use Rattle.descriptor_laws.specs.{Ranges.SaysInRange, ReadRanges.{IsDescriptorInRange, IsShortAddress}}
+use Rattle.descriptor_laws.{specs.Values.ReadDescriptorsSayInRange, proofs.DescriptorInRange.descriptors_in_range}
+use Rattle.descriptor_laws.proofs.{DescriptorInRange.text_bytes, DescriptorReads.item_says, ItemsSay.AreArguments}
+use Rattle.descriptor_laws.proofs.ItemsSay.{BandwidthIs, FingerprintIs, KeyIs, SignatureIs, UptimeIs, bandwidth_says}
+use Rattle.descriptor_laws.proofs.ItemsSay.{family_says, fingerprint_says, key_says, padded_says, policies_are}
+use Rattle.descriptor_laws.proofs.{ItemsSay.{signature_says, uptime_says}, KeysRead.IsLong, PortsRead.HasApart}
+use Rattle.descriptor_laws.proofs.PortsRead.{summary_in}
+use Rattle.descriptor_parts.proofs.{DescriptorDocument.{DescriptorTaken, IsReadOf, Said, of_section}, OfText.is_own}
 use Rattle.range_laws.proofs.ValueTexts.{TextIs, text_ranged}
-use Rattle.row_laws.proofs.ReadBytes.{object_bytes}
-use Rattle.row_laws.proofs.Saying.{all_sound, each_stands}
-use Rattle.descriptor_laws.specs.Values.{ReadDescriptorsSayInRange}
-use Rattle.descriptor_laws.proofs.ItemsSay.{AreArguments, BandwidthIs, FingerprintIs, KeyIs, SignatureIs, UptimeIs}
-use Rattle.descriptor_laws.proofs.ItemsSay.{bandwidth_says, family_says, fingerprint_says, key_says, padded_says}
-use Rattle.descriptor_laws.proofs.ItemsSay.{policies_are, signature_says, uptime_says}
-use Rattle.descriptor_laws.proofs.KeysRead.{IsLong}
-use Rattle.descriptor_laws.proofs.PortsRead.{HasApart, summary_in}
-use Rattle.row_laws.proofs.ItemWords.{IsArgument}
+use Rattle.row_laws.proofs.{ReadBytes.object_bytes, Saying.{all_sound, each_stands}, ItemWords.IsArgument}
 
 -- an item, if there is one
 abbrev TakenIf : Type 0

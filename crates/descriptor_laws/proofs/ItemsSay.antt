@@ -1,47 +1,31 @@
 -- What the items of a server descriptor say can be written, by the kinds of their rows.
 use Rattle.std.proofs.Common.{◌≡◌, ℕ, Bool, true, false, List, [], ◌∷◌, Option, Some, None, Result, Ok, refl, sym}
-use Rattle.std.proofs.Common.{subst, inl, inr}
-use Rattle.std.specs.Prelude.{All, IfSome, filter_map, if◌then◌else◌}
-use Rattle.std.specs.List.{cons_option}
-use Rattle.std.proofs.lemmas.Bool.{leb-true}
-use Rattle.std.proofs.lemmas.List.Elements.{All-cons, All-nil}
+use Rattle.std.proofs.{Common.{subst, inl, inr}, lemmas.{Bool.leb-true, List.Elements.{All-cons, All-nil}}}
+use Rattle.std.specs.{Prelude.{All, IfSome, filter_map, if◌then◌else◌}, List.cons_option}
 use Rattle.base64.specs.GeneralPurpose.{IsBytes}
-use Rattle.item_terms.specs.Items.{Item}
-use Rattle.item_terms.specs.Words.{words_of}
-use Rattle.dir_values.specs.declared.digest.Fingerprint.{Fingerprint}
-use Rattle.dir_values.specs.declared.policy.Net.{Net}
+use Rattle.item_terms.specs.{Items.Item, Words.words_of}
+use Rattle.dir_values.specs.declared.{digest.Fingerprint.Fingerprint, policy.{Net.Net, PolicyItem.PolicyItem}}
 use Rattle.dir_values.specs.declared.policy.Net.TheVariants as net
-use Rattle.dir_values.specs.declared.policy.PolicyItem.{PolicyItem}
-use Rattle.exit_summary.specs.Policies.{is_net}
-use Rattle.frame_values.specs.Arguments.{arguments_of, front, next}
-use Rattle.frame_values.specs.Lines.{rest_of}
-use Rattle.frame_values.specs.Ranges.{AreTwenty}
+use Rattle.exit_summary.specs.{Policies.is_net, PolicyItems.item_of}
+use Rattle.frame_values.specs.{Arguments.{arguments_of, front, next}, Lines.rest_of, Ranges.AreTwenty}
 use Rattle.frame_values.specs.declared.values.Value.TheVariants as value
 use Rattle.frame_laws.proofs.StandingParts.{rest_part}
 use Rattle.document_laws.specs.Items.{IsItemIn}
-use Rattle.exit_summary.specs.PolicyItems.{item_of}
-use Rattle.descriptor_frame.specs.Fields.{key, long_number, padded_key, signature}
-use Rattle.descriptor_frame.specs.Lines.{bandwidth_of, first_of, identity_of}
-use Rattle.descriptor_frame.specs.Lines.{value_at}
-use Rattle.descriptor_frame.specs.Tables.{descriptor_tables}
-use Rattle.descriptor_frame.specs.declared.said.BandwidthLine.{BandwidthLine}
-use Rattle.descriptor_frame.specs.declared.said.DescriptorKind.{DescriptorKind}
-use Rattle.descriptor_frame.specs.declared.said.DescriptorKind.TheVariants as kind
+use Rattle.descriptor_frame.specs.{Fields.{key, long_number, padded_key, signature}, Lines.{bandwidth_of, first_of}}
+use Rattle.descriptor_frame.specs.{Lines.{identity_of, value_at}, Tables.descriptor_tables}
+use Rattle.descriptor_frame.specs.declared.said.{BandwidthLine.BandwidthLine, DescriptorKind.DescriptorKind}
 use Rattle.descriptor_frame.specs.declared.said.DescriptorValue.{DescriptorValue}
+use Rattle.descriptor_frame.specs.declared.said.DescriptorKind.TheVariants as kind
 use Rattle.descriptor_frame.specs.declared.said.DescriptorValue.TheVariants as own
 use Rattle.descriptor_doc.specs.Saying as says
 use Rattle.descriptor_laws.specs.Ranges.{AreBytes, IsBandwidthInRange, IsItemInRange, IsNetInRange}
+use Rattle.descriptor_laws.proofs.{DescriptorReads.{DescriptorSays, EachDescriptorStands}, KeysRead.IsLong}
+use Rattle.descriptor_laws.proofs.KeysRead.{bandwidth_reads, identity_reads, key_reads, long_reads, padded_reads}
+use Rattle.descriptor_laws.proofs.{KeysRead.signature_reads, PoliciesRead.{IsItemRead, IsNetRead, item_in}}
 use Rattle.descriptor_parts.proofs.DescriptorDocument.{DescriptorTaken, Said}
-use Rattle.descriptor_laws.proofs.DescriptorReads.{DescriptorSays, EachDescriptorStands}
 use Rattle.range_laws.proofs.ValueTexts.{TextIs}
-use Rattle.row_laws.proofs.ItemArguments.{IsSound}
-use Rattle.row_laws.proofs.ReadSteps.{ReadAs, field_reads, next_reads, placed, was_read}
-use Rattle.row_laws.proofs.SaidByKinds.{said_of_any}
-use Rattle.row_laws.proofs.Saying.{Stands}
-use Rattle.descriptor_laws.proofs.KeysRead.{IsLong, bandwidth_reads, identity_reads, key_reads, long_reads}
-use Rattle.descriptor_laws.proofs.KeysRead.{padded_reads, signature_reads}
-use Rattle.descriptor_laws.proofs.PoliciesRead.{IsItemRead, IsNetRead, item_in}
-use Rattle.row_laws.proofs.ItemWords.{IsArgument, words_are_arguments}
+use Rattle.row_laws.proofs.{ItemArguments.IsSound, ReadSteps.{ReadAs, field_reads, next_reads, placed, was_read}}
+use Rattle.row_laws.proofs.{SaidByKinds.said_of_any, Saying.Stands, ItemWords.{IsArgument, words_are_arguments}}
 
 -- ---- values
 

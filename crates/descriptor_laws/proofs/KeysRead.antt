@@ -1,27 +1,20 @@
 -- What the keys, the identity and the numbers of a descriptor spell is in range.
-use Rattle.std.proofs.Common.{◌≡◌, ℕ, zero, suc, ◌<◌, ◌^◌, ◌*◌, Bool, true, false, List, [], ◌∷◌, ◌++◌, length}
-use Rattle.std.proofs.Common.{take, Some, Result, Ok, Err, refl, sym, subst, ◌∙◌, arith, length-append}
-use Rattle.std.specs.Prelude.{◌==◌, ◌&&◌, slice_index, if◌then◌else◌}
-use Rattle.std.specs.Result.{result_ok}
+use Rattle.std.proofs.Common.{◌≡◌, ℕ, zero, suc, ◌<◌, ◌^◌, ◌*◌, Bool, true, false, List, [], ◌∷◌, ◌++◌, length, take}
+use Rattle.std.{proofs.Common.{Some, Result, Ok, Err, refl, sym, subst, ◌∙◌, arith, length-append}, specs.Prelude.◌==◌}
+use Rattle.std.specs.{Prelude.{◌&&◌, slice_index, if◌then◌else◌}, Result.result_ok}
 use Rattle.base64.specs.GeneralPurpose.{IsBytes}
-use Rattle.hex.specs.Hex.{decode_sized}
-use Rattle.hex.specs.declared.error.FromHexError.{FromHexError}
-use Rattle.hex.proofs.HexLemmas.{decode_of-ok, decode_sized-ok, decode_sized-twice}
+use Rattle.hex.{specs.{Hex.decode_sized, declared.error.FromHexError.FromHexError}, proofs.HexLemmas.decode_of-ok}
+use Rattle.hex.proofs.HexLemmas.{decode_sized-ok, decode_sized-twice}
 use Rattle.item_terms.specs.Items.{Item}
 use Rattle.dir_bytes.specs.Fields.{base64, hex}
-use Rattle.dir_values.specs.Arguments.{Argument}
-use Rattle.dir_values.specs.declared.digest.Fingerprint.{Fingerprint}
-use Rattle.frame_values.specs.Arguments.{arguments_of, field, front, next, others}
-use Rattle.frame_values.specs.Ranges.{AreTwenty}
-use Rattle.descriptor_frame.specs.Fields.{group_of, groups_of, key, long_number, padded_key, signature}
-use Rattle.descriptor_frame.specs.Fields.{without_padding}
+use Rattle.dir_values.specs.{Arguments.Argument, declared.digest.Fingerprint.Fingerprint}
+use Rattle.frame_values.specs.{Arguments.{arguments_of, field, front, next, others}, Ranges.AreTwenty}
+use Rattle.descriptor_frame.specs.Fields.{group_of, groups_of, key, long_number, padded_key, signature, without_padding}
 use Rattle.descriptor_frame.specs.Lines.{bandwidth_of, first_of, identity_of}
 use Rattle.descriptor_frame.specs.declared.said.BandwidthLine.{BandwidthLine}
 use Rattle.descriptor_laws.specs.Ranges.{AreBytes, IsBandwidthInRange}
-use Rattle.row_laws.proofs.ItemArguments.{IsSound, are_found}
-use Rattle.row_laws.proofs.ReadBytes.{base64_bytes, bytes_by_test, bytes_take}
-use Rattle.row_laws.proofs.ReadSteps.{ReadAs, field_reads, next_reads, number_within}
-use Rattle.row_laws.proofs.ReadSteps.{front_bytes}
+use Rattle.row_laws.proofs.{ItemArguments.{IsSound, are_found}, ReadBytes.{base64_bytes, bytes_by_test, bytes_take}}
+use Rattle.row_laws.proofs.ReadSteps.{ReadAs, field_reads, next_reads, number_within, front_bytes}
 
 -- ---- keys
 

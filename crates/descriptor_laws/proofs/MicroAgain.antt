@@ -1,39 +1,29 @@
 -- A microdescriptor that was written is read again, at the end of the input and before the next one.
 use Rattle.std.proofs.Common.{◌≡◌, ℕ, ◌+◌, false, List, [], ◌∷◌, ◌++◌, length, Option, Some, None, Result, Ok, refl}
-use Rattle.std.proofs.Common.{sym, ap, subst, ◌∙◌, append_assoc, append-nil, arith}
+use Rattle.std.proofs.{Common.{sym, ap, subst, ◌∙◌, append_assoc, append-nil, arith}, lemmas.Bool.and_right}
 use Rattle.std.specs.Prelude.{◌&&◌, option_map}
-use Rattle.std.proofs.lemmas.Bool.{and_right}
 use Rattle.dir_bytes.specs.FieldTexts.{base64_text}
-use Rattle.item_terms.specs.Items.{Contents, contents, nothing}
-use Rattle.item_terms.specs.Words.{begins_dash}
+use Rattle.item_terms.specs.{Items.{Contents, contents, nothing}, Words.begins_dash}
 use Rattle.dirdoc_grammar.specs.Writing.{AreWritable, IsWritable, NewItem, in_front, is_open, item_text, items_text}
 use Rattle.dirdoc_grammar.specs.Writing.{tail, written}
 use Rattle.grammar_laws.proofs.ItemsAgain.{items_again}
-use Rattle.frame_terms.specs.Keywords.{same, text_of}
-use Rattle.frame_terms.specs.declared.fault.ReadRefusal.{ReadRefusal}
-use Rattle.frame_terms.specs.declared.keyword.Keyword.{Keyword}
+use Rattle.frame_terms.specs.{Keywords.{same, text_of}, declared.fault.ReadRefusal.ReadRefusal}
+use Rattle.frame_terms.specs.{declared.keyword.Keyword.Keyword, Documents.{Document, finish}}
 use Rattle.frame_terms.specs.declared.keyword.Keyword.TheVariants as the
 use Rattle.frame_terms.specs.declared.section.Again.TheVariants as again
-use Rattle.frame_terms.specs.Documents.{Document, finish}
-use Rattle.frame_values.specs.Items.{item_if}
-use Rattle.frame_values.specs.declared.values.Value.{Value}
-use Rattle.frame_laws.proofs.Both.{both_hold}
-use Rattle.frame_laws.proofs.Steps.{IsAgain}
+use Rattle.frame_values.specs.{Items.item_if, declared.values.Value.Value}
+use Rattle.frame_laws.proofs.{Both.both_hold, Steps.IsAgain}
 use Rattle.descriptor_frame.specs.Families.{family_text}
-use Rattle.micro_desc.specs.Tables.{micro_tables}
-use Rattle.micro_desc.specs.declared.micro.Micro.{Micro}
-use Rattle.micro_desc.specs.Heads.{head_with, no_head}
-use Rattle.micro_desc.specs.Reading.{max_micro, micro_of, with_micro}
-use Rattle.micro_desc.specs.Texts.{family_items, id_items, id_text, micro_text, ntor_key_items, onion_key_item}
+use Rattle.micro_desc.specs.{Tables.micro_tables, declared.{micro.Micro.Micro, said.MicroValue.MicroValue}}
+use Rattle.micro_desc.specs.{Heads.{head_with, no_head}, Reading.{max_micro, micro_of, with_micro}, Texts.family_items}
+use Rattle.micro_desc.specs.Texts.{id_items, id_text, micro_text, ntor_key_items, onion_key_item}
 use Rattle.micro_desc.specs.declared.said.MicroKind.TheVariants as kind
-use Rattle.micro_desc.specs.declared.said.MicroValue.{MicroValue}
-use Rattle.row_laws.proofs.Again.{IsReadAgain, document_again, document_stops}
-use Rattle.row_laws.proofs.Spoken.{field_rows, new_item}
+use Rattle.row_laws.proofs.{Again.{IsReadAgain, document_again, document_stops}, Spoken.{field_rows, new_item}}
 use Rattle.descriptor_laws.specs.MicroAgain.{MicrosAreReadAgain, MicrosEndBeforeTheNext, micros_text}
-use Rattle.descriptor_laws.specs.MicroRanges.{IsInRange, SaysInRange}
-use Rattle.descriptor_laws.proofs.MicroFields.{facts_again, facts_of, fields, first_row, items_of, kept_same, onion_item}
-use Rattle.descriptor_laws.proofs.MicroFields.{opens, others, rows_of, same_items, spoken_so, table}
-use Rattle.descriptor_laws.proofs.MicroKinds.{IsRead, MayWrite, laws, meaning, onion, write}
+use Rattle.descriptor_laws.{specs.MicroRanges.{IsInRange, SaysInRange}, proofs.MicroFields.{facts_again, facts_of}}
+use Rattle.descriptor_laws.proofs.MicroFields.{fields, first_row, items_of, kept_same, onion_item, opens, others}
+use Rattle.descriptor_laws.proofs.{MicroFields.{rows_of, same_items, spoken_so, table}, MicroKinds.{IsRead, MayWrite}}
+use Rattle.descriptor_laws.proofs.MicroKinds.{laws, meaning, onion, write}
 
 -- its items behind the first
 abbrev others_of : Micro → List NewItem

@@ -1,47 +1,30 @@
 -- The fields of a microdescriptor as a table, and what is kept with places is what they say.
 use Rattle.std.proofs.Common.{◌≡◌, ℕ, List, [], ◌∷◌, ◌++◌, Option, Some, None, refl, ap, ◌∙◌, append-nil, arith, true}
-use Rattle.std.specs.Prelude.{All, IfSome, map}
+use Rattle.std.{proofs.lemmas.List.Elements.{All-cons, All-nil}, specs.Prelude.{All, IfSome, map}}
 use Rattle.std.specs.Option.{option_and_then, option_map, option_to_list}
-use Rattle.std.proofs.lemmas.List.Elements.{All-cons, All-nil}
 use Rattle.dir_bytes.specs.FieldTexts.{base64_text}
 use Rattle.item_terms.specs.Words.{words_of}
-use Rattle.dirdoc_grammar.specs.Writing.{NewItem}
-use Rattle.dirdoc_grammar.specs.Writers.{is_argument}
-use Rattle.frame_terms.specs.Keywords.{same}
-use Rattle.frame_terms.specs.Rows.{row}
-use Rattle.frame_terms.specs.declared.document.Taken.{Taken}
-use Rattle.frame_terms.specs.declared.keyword.Keyword.{Keyword}
+use Rattle.dirdoc_grammar.specs.{Writing.NewItem, Writers.is_argument}
+use Rattle.frame_terms.specs.{Keywords.same, Rows.row, declared.{document.Taken.Taken, keyword.Keyword.Keyword}}
+use Rattle.frame_terms.specs.declared.row.{Count.TheVariants.{One, Optional}, Row.Row}
 use Rattle.frame_terms.specs.declared.keyword.Keyword.TheVariants as the
-use Rattle.frame_terms.specs.declared.row.Count.TheVariants.{One, Optional}
-use Rattle.frame_terms.specs.declared.row.Row.{Row}
-use Rattle.frame_values.specs.Items.{bare, item_if}
-use Rattle.frame_values.specs.Values.{text_if}
-use Rattle.frame_values.specs.Parts.{bytes_in, part}
+use Rattle.frame_values.specs.{Items.{bare, item_if}, Values.text_if, Parts.{bytes_in, part}}
 use Rattle.frame_values.specs.declared.values.Value.{Value}
 use Rattle.frame_values.specs.declared.values.Value.TheVariants as value
-use Rattle.frame_laws.proofs.Words.{words_of-join}
-use Rattle.frame_laws.proofs.Both.{both_hold}
+use Rattle.frame_laws.proofs.{Words.words_of-join, Both.both_hold}
 use Rattle.descriptor_doc.specs.Descriptors.{words_in}
 use Rattle.descriptor_frame.specs.Families.{family_text}
-use Rattle.micro_desc.specs.Heads.{ItemIf, head_of, id_in, key_in, onion_key_in}
-use Rattle.micro_desc.specs.Micros.{micro_in}
-use Rattle.micro_desc.specs.Tables.{micro_tables}
-use Rattle.micro_desc.specs.Texts.{id_items, id_text, micro_items, onion_key_item}
-use Rattle.micro_desc.specs.declared.micro.Micro.{Micro}
-use Rattle.micro_desc.specs.declared.said.MicroId.{MicroId}
-use Rattle.micro_desc.specs.declared.said.MicroKind.{MicroKind}
+use Rattle.micro_desc.specs.{Heads.{ItemIf, head_of, id_in, key_in, onion_key_in}, Micros.micro_in, Tables.micro_tables}
+use Rattle.micro_desc.specs.{Texts.{id_items, id_text, micro_items, onion_key_item}, declared.micro.Micro.Micro}
+use Rattle.micro_desc.specs.declared.said.{MicroId.MicroId, MicroKind.MicroKind, MicroValue.MicroValue}
 use Rattle.micro_desc.specs.declared.said.MicroKind.TheVariants as kind
-use Rattle.micro_desc.specs.declared.said.MicroValue.{MicroValue}
 use Rattle.micro_desc.specs.declared.said.MicroValue.TheVariants as own
-use Rattle.row_laws.proofs.Again.{IsOneSection, document_items, document_rows}
-use Rattle.row_laws.proofs.Lookups.{first_said, looked_up, say_if}
-use Rattle.row_laws.proofs.Spoken.{Field, Spoken, SpokenRow, field_rows, rows_at, new_item, spoken, spoken_of}
-use Rattle.row_laws.proofs.FoundRows.{EachFound, each_found, first_is, first_of}
-use Rattle.row_laws.proofs.Sayings.{AreSpoken, MayBeSaid}
-use Rattle.descriptor_laws.specs.Ranges.{AreBytes}
-use Rattle.descriptor_laws.specs.MicroRanges.{IsIdInRange, SaysInRange}
-use Rattle.descriptor_laws.proofs.MicroKinds.{IsRead, MayWrite, Saying, a_key, an_id, laws, meaning, onion, said, text}
-use Rattle.descriptor_laws.proofs.MicroKinds.{write}
+use Rattle.row_laws.proofs.{Again.{IsOneSection, document_items, document_rows}, Lookups.{first_said, looked_up}}
+use Rattle.row_laws.proofs.{Lookups.say_if, Spoken.{Field, Spoken, SpokenRow, field_rows, rows_at, new_item, spoken}}
+use Rattle.row_laws.proofs.{Spoken.spoken_of, FoundRows.{EachFound, each_found, first_is, first_of}, Sayings.AreSpoken}
+use Rattle.row_laws.proofs.Sayings.{MayBeSaid}
+use Rattle.descriptor_laws.{specs.{Ranges.AreBytes, MicroRanges.{IsIdInRange, SaysInRange}}, proofs.MicroKinds.IsRead}
+use Rattle.descriptor_laws.proofs.MicroKinds.{MayWrite, Saying, a_key, an_id, laws, meaning, onion, said, text, write}
 
 abbrev pub first_row : Row MicroKind
 first_row = row the.OnionKey One kind.OnionKey

@@ -1,48 +1,29 @@
 -- What the items of a microdescriptor mean, without places, and the facts of each kind.
 use Rattle.std.proofs.Common.{◌≡◌, ℕ, Bool, true, false, List, [], ◌∷◌, Option, Some, None, Result, Ok, Err, refl, ap}
-use Rattle.std.proofs.Common.{subst, ◌∙◌, arith}
-use Rattle.std.specs.Prelude.{IfSome, codes, unwrap_or, if◌then◌else◌}
-use Rattle.std.specs.Option.{option_map}
-use Rattle.std.specs.Result.{result_ok}
-use Rattle.std.specs.Str.{bytes_eq}
-use Rattle.std.proofs.lemmas.List.Elements.{All-cons, All-nil}
-use Rattle.dir_bytes.specs.FieldTexts.{base64_text}
-use Rattle.dir_bytes.specs.Fields.{base64}
-use Rattle.dir_bytes.proofs.ReadAgain.{base64-base64_text}
-use Rattle.item_terms.specs.Items.{Item}
-use Rattle.item_terms.specs.Words.{words_of}
+use Rattle.std.{proofs.{Common.{subst, ◌∙◌, arith}, lemmas.List.Elements.{All-cons, All-nil}}, specs.Prelude.IfSome}
+use Rattle.std.specs.{Prelude.{codes, unwrap_or, if◌then◌else◌}, Option.option_map, Result.result_ok, Str.bytes_eq}
+use Rattle.dir_bytes.{specs.{FieldTexts.base64_text, Fields.base64}, proofs.ReadAgain.base64-base64_text}
+use Rattle.item_terms.specs.{Items.Item, Words.words_of}
 use Rattle.dirdoc_grammar.specs.Writing.{IsWritableObject}
 use Rattle.grammar_laws.proofs.WrittenBytes.{decoded-body_text}
 use Rattle.dir_values.specs.declared.digest.Fingerprint.{Fingerprint}
-use Rattle.frame_values.specs.Arguments.{arguments_of, front, next}
-use Rattle.frame_values.specs.Parts.{bytes_in, part}
-use Rattle.frame_values.specs.Signatures.{object_of}
-use Rattle.frame_values.specs.declared.found.Span.{Span}
-use Rattle.frame_values.specs.declared.values.Value.{Value}
+use Rattle.frame_values.specs.{Arguments.{arguments_of, front, next}, Parts.{bytes_in, part}, Signatures.object_of}
+use Rattle.frame_values.specs.declared.{found.Span.Span, values.Value.Value}
 use Rattle.frame_values.specs.declared.values.Value.TheVariants as value
-use Rattle.frame_laws.proofs.Base64Words.{word_of_base64}
-use Rattle.frame_laws.proofs.Words.{IsWord, two_words, words_of-join}
+use Rattle.frame_laws.proofs.{Base64Words.word_of_base64, Words.{IsWord, two_words, words_of-join}}
 use Rattle.relay_entries.specs.Fields.{identity}
 use Rattle.group_laws.proofs.WrittenRelays.{identity_again, word_of_twenty}
 use Rattle.descriptor_frame.specs.Fields.{key}
-use Rattle.micro_desc.specs.Lines.{id_of, onion_key_of, value_at}
-use Rattle.micro_desc.specs.Tables.{micro_tables}
-use Rattle.micro_desc.specs.Texts.{id_text}
-use Rattle.micro_desc.specs.declared.said.MicroId.{MicroId}
-use Rattle.micro_desc.specs.declared.said.MicroId.TheVariants.{Ed25519, Rsa1024}
-use Rattle.micro_desc.specs.declared.said.MicroKind.{MicroKind}
-use Rattle.micro_desc.specs.declared.said.MicroKind.TheVariants as kind
+use Rattle.micro_desc.specs.{Lines.{id_of, onion_key_of, value_at}, Tables.micro_tables, Texts.id_text}
+use Rattle.micro_desc.specs.declared.said.{MicroId.{MicroId, TheVariants.{Ed25519, Rsa1024}}, MicroKind.MicroKind}
 use Rattle.micro_desc.specs.declared.said.MicroValue.{MicroValue}
+use Rattle.micro_desc.specs.declared.said.MicroKind.TheVariants as kind
 use Rattle.micro_desc.specs.declared.said.MicroValue.TheVariants as own
-use Rattle.row_laws.proofs.ItemKinds.{IsKind, Kind, KindLaws, a_rest, kind_tied, of_line, rest_laws}
-use Rattle.row_laws.proofs.Columns.{last}
-use Rattle.row_laws.proofs.ItemArguments.{IsSound}
-use Rattle.row_laws.proofs.Ties.{any_gives, Tied, behind_it, first_text, head_word, in_item, object_means, object_tied}
-use Rattle.row_laws.proofs.Ties.{plain, tail_words}
-use Rattle.row_laws.proofs.Rows.{Meaning, RowLaws}
-use Rattle.row_laws.proofs.Spoken.{Rest, Words, new_object, new_words, words_in}
-use Rattle.descriptor_laws.specs.Ranges.{AreBytes}
-use Rattle.descriptor_laws.specs.MicroRanges.{IsIdInRange}
+use Rattle.row_laws.proofs.{ItemKinds.{IsKind, Kind, KindLaws, a_rest, kind_tied, of_line, rest_laws}, Columns.last}
+use Rattle.row_laws.proofs.{ItemArguments.IsSound, Ties.{any_gives, Tied, behind_it, first_text, head_word, in_item}}
+use Rattle.row_laws.proofs.{Ties.{object_means, object_tied, plain, tail_words}, Rows.{Meaning, RowLaws}, Spoken.Rest}
+use Rattle.row_laws.proofs.Spoken.{Words, new_object, new_words, words_in}
+use Rattle.descriptor_laws.specs.{Ranges.AreBytes, MicroRanges.IsIdInRange}
 
 -- what an item says
 pub data Saying : Type 0 where

@@ -1,49 +1,28 @@
 -- What is read of a microdescriptor is in range.
-use Rattle.std.proofs.Common.{◌≡◌, ℕ, Bool, true, false, List, length, Ok, Err, refl, sym, subst}
-use Rattle.std.specs.Prelude.{All, IfSome, codes, if◌then◌else◌}
-use Rattle.std.specs.Option.{option_map}
-use Rattle.std.specs.Str.{bytes_eq}
+use Rattle.std.{proofs.Common.{◌≡◌, ℕ, Bool, true, false, List, length, Ok, Err, refl, sym, subst}, specs.Prelude.All}
+use Rattle.std.specs.{Prelude.{IfSome, codes, if◌then◌else◌}, Option.option_map, Str.bytes_eq}
 use Rattle.base64.specs.GeneralPurpose.{IsBytes}
 use Rattle.item_terms.specs.Items.{Item}
-use Rattle.dirdoc_grammar.specs.Writers.{is_argument}
-use Rattle.dirdoc_grammar.specs.Writing.{IsLineRest}
-use Rattle.dir_values.specs.Arguments.{Argument}
-use Rattle.dir_values.specs.declared.digest.Fingerprint.{Fingerprint}
-use Rattle.frame_terms.specs.Keywords.{same}
-use Rattle.frame_terms.specs.declared.document.Taken.{Taken}
-use Rattle.frame_terms.specs.declared.keyword.Keyword.{Keyword}
+use Rattle.dirdoc_grammar.specs.{Writers.is_argument, Writing.IsLineRest}
+use Rattle.dir_values.specs.{Arguments.Argument, declared.digest.Fingerprint.Fingerprint}
+use Rattle.frame_terms.specs.{Keywords.same, declared.{document.Taken.Taken, keyword.Keyword.Keyword}}
 use Rattle.frame_terms.specs.declared.keyword.Keyword.TheVariants as the
-use Rattle.frame_values.specs.Arguments.{arguments_of, field, front, next, others}
-use Rattle.frame_values.specs.Lines.{rest_of}
-use Rattle.frame_values.specs.Parts.{part}
-use Rattle.frame_values.specs.Ranges.{AreTwenty}
-use Rattle.frame_values.specs.Values.{text_if}
-use Rattle.frame_values.specs.declared.found.Span.{Span}
-use Rattle.frame_values.specs.declared.values.Value.{Value}
+use Rattle.frame_values.specs.{Arguments.{arguments_of, field, front, next, others}, Lines.rest_of, Parts.part}
+use Rattle.frame_values.specs.{Ranges.AreTwenty, Values.text_if, declared.{found.Span.Span, values.Value.Value}}
 use Rattle.frame_values.specs.declared.values.Value.TheVariants as value
 use Rattle.frame_laws.proofs.StandingParts.{rest_part}
 use Rattle.relay_entries.specs.Fields.{identity}
-use Rattle.descriptor_frame.specs.Fields.{key}
-use Rattle.descriptor_frame.specs.Lines.{first_of}
+use Rattle.descriptor_frame.specs.{Fields.key, Lines.first_of}
 use Rattle.descriptor_doc.specs.Descriptors.{words_in}
-use Rattle.micro_desc.specs.Heads.{head_of, head_with, id_in, key_in, no_head}
-use Rattle.micro_desc.specs.Lines.{id_of}
-use Rattle.micro_desc.specs.Micros.{micro_in}
-use Rattle.micro_desc.specs.Reading.{max_micro, with_micro}
-use Rattle.micro_desc.specs.Tables.{micro_tables}
-use Rattle.micro_desc.specs.declared.said.MicroId.{MicroId}
-use Rattle.micro_desc.specs.declared.said.MicroId.TheVariants.{Ed25519, Rsa1024}
+use Rattle.micro_desc.specs.{Heads.{head_of, head_with, id_in, key_in, no_head}, Lines.id_of, Micros.micro_in}
+use Rattle.micro_desc.specs.{Reading.{max_micro, with_micro}, Tables.micro_tables, declared.said.MicroId.MicroId}
+use Rattle.micro_desc.specs.declared.said.{MicroId.TheVariants.{Ed25519, Rsa1024}, MicroValue.MicroValue}
 use Rattle.micro_desc.specs.declared.said.MicroKind.TheVariants as kind
-use Rattle.micro_desc.specs.declared.said.MicroValue.{MicroValue}
 use Rattle.micro_desc.specs.declared.said.MicroValue.TheVariants as own
-use Rattle.row_laws.proofs.ItemArguments.{IsSound, are_found, others_found}
-use Rattle.row_laws.proofs.ItemWords.{words_are_arguments}
-use Rattle.row_laws.proofs.KindRanges.{IsNotInside, KindIs, field_is, kind_read, read_is}
-use Rattle.row_laws.proofs.ReadSteps.{ReadAs, base64_made, base64_reads, front_bytes, next_reads}
-use Rattle.row_laws.proofs.Saying.{EachStands}
-use Rattle.descriptor_laws.specs.Ranges.{AreBytes}
-use Rattle.descriptor_laws.specs.MicroRanges.{IsIdInRange, SaysInRange}
-use Rattle.descriptor_laws.specs.Read.{MicrosReadAreInRange}
+use Rattle.row_laws.proofs.{ItemArguments.{IsSound, are_found, others_found}, ItemWords.words_are_arguments}
+use Rattle.row_laws.proofs.{KindRanges.{IsNotInside, KindIs, field_is, kind_read, read_is}, ReadSteps.ReadAs}
+use Rattle.row_laws.proofs.{ReadSteps.{base64_made, base64_reads, front_bytes, next_reads}, Saying.EachStands}
+use Rattle.descriptor_laws.specs.{Ranges.AreBytes, MicroRanges.{IsIdInRange, SaysInRange}, Read.MicrosReadAreInRange}
 
 -- ---- kinds
 

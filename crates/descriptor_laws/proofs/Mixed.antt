@@ -1,25 +1,14 @@
 -- Items of rows between which items of other rows stand in any order.
-use Rattle.std.proofs.Common.{◌≡◌, ℕ, Bool, true, false, List, [], ◌∷◌, ◌++◌, None, refl, sym, ap, ◌∙◌}
-use Rattle.std.proofs.Common.{append-nil}
-use Rattle.std.specs.Prelude.{All, ◌&&◌, not, map}
-use Rattle.std.proofs.lemmas.Bool.{and_parts, or_from, true_from_ne_false}
-use Rattle.std.proofs.lemmas.List.Elements.{All-head, All-tail, filter-append}
-use Rattle.std.proofs.lemmas.List.Folds.{list_any-append}
-use Rattle.frame_terms.specs.Keywords.{same}
-use Rattle.frame_terms.specs.Rows.{is_many}
-use Rattle.frame_terms.specs.Sections.{stands}
-use Rattle.frame_terms.specs.Tables.{Tables}
-use Rattle.frame_terms.specs.declared.document.Taken.{Taken}
-use Rattle.frame_terms.specs.declared.keyword.Keyword.{Keyword}
-use Rattle.frame_terms.specs.declared.row.Row.{Row}
-use Rattle.frame_laws.proofs.Both.{both_hold}
-use Rattle.frame_laws.proofs.Entries.{AlwaysSuits, Entry, after_one, all_taken, taken_at}
-use Rattle.frame_laws.proofs.MoreRows.{AreInTable, NoneStand}
-use Rattle.frame_laws.proofs.Places.{after_all}
-use Rattle.frame_laws.proofs.ReadRows.{Each, IsRead, IsTaken, Stand, both_stand, none_at, none_of_rows}
-use Rattle.frame_laws.proofs.Reading.{AreMore}
-use Rattle.frame_laws.proofs.SaidRows.{AreCounted, RowSays, entries_of, items_at, lack, rows_of}
-use Rattle.frame_laws.proofs.Steps.{IsInTable, IsNew, later_item_is_pushed}
+use Rattle.std.proofs.Common.{◌≡◌, ℕ, Bool, true, false, List, [], ◌∷◌, ◌++◌, None, refl, sym, ap, ◌∙◌, append-nil}
+use Rattle.std.proofs.lemmas.{Bool.{and_parts, or_from, true_from_ne_false}, List.Elements.{All-head, All-tail}}
+use Rattle.std.{proofs.lemmas.List.{Elements.filter-append, Folds.list_any-append}, specs.Prelude.{All, ◌&&◌, not, map}}
+use Rattle.frame_terms.specs.{Keywords.same, Rows.is_many, Sections.stands, Tables.Tables}
+use Rattle.frame_terms.specs.declared.{document.Taken.Taken, keyword.Keyword.Keyword, row.Row.Row}
+use Rattle.frame_laws.proofs.{Both.both_hold, Entries.{AlwaysSuits, Entry, after_one, all_taken, taken_at}}
+use Rattle.frame_laws.proofs.{MoreRows.{AreInTable, NoneStand}, Places.after_all, ReadRows.{Each, IsRead, IsTaken}}
+use Rattle.frame_laws.proofs.{ReadRows.{Stand, both_stand, none_at, none_of_rows}, Reading.AreMore, SaidRows.AreCounted}
+use Rattle.frame_laws.proofs.{SaidRows.{RowSays, entries_of, items_at, lack, rows_of}, Steps.{IsInTable, IsNew}}
+use Rattle.frame_laws.proofs.Steps.{later_item_is_pushed}
 
 module _ {K : Type 0} where
   -- none of these keywords is one of those rows

@@ -1,23 +1,14 @@
 -- The bytes of numbers and addresses, and where the last of a byte stands in a text.
-use Rattle.std.proofs.Common.{◌≡◌, ℕ, suc, ◌+◌, ◌-◌, ◌/◌, ◌%◌, ◌<◌, ◌^◌, Bool, true, false, List, [], ◌∷◌, ◌++◌}
-use Rattle.std.proofs.Common.{length, take, drop, get_or, refl, sym, ap, ◌∙◌, arith, append_assoc}
-use Rattle.std.proofs.Common.{length-append}
-use Rattle.std.specs.Prelude.{decimal, nat_le, nat_lt, nat_eq, ◌==◌, ◌&&◌, ◌||◌, not}
-use Rattle.std.specs.List.{list_all}
-use Rattle.std.specs.Str.{all_ascii_digits}
-use Rattle.std.specs.Char.{is_ascii_digit}
-use Rattle.std.proofs.Math.Seq.{get_or-append_seam}
-use Rattle.std.proofs.lemmas.Bool.{and_from, and_parts, lt-ltb}
-use Rattle.std.proofs.lemmas.Bool.Decides.{nat_tests}
-use Rattle.std.proofs.lemmas.List.{take_at, drop_at, get_or-append-add}
-use Rattle.std.proofs.lemmas.List.Folds.{list_all-append}
-use Rattle.std.proofs.lemmas.List.Sums.{suffix_len_is}
-use Rattle.dir_bytes.specs.FieldTexts.{address_text}
-use Rattle.dir_bytes.proofs.ReadAgain.{decimal_digits}
+use Rattle.std.proofs.Common.{◌≡◌, ℕ, suc, ◌+◌, ◌-◌, ◌/◌, ◌%◌, ◌<◌, ◌^◌, Bool, true, false, List, [], ◌∷◌, ◌++◌, length}
+use Rattle.std.proofs.Common.{take, drop, get_or, refl, sym, ap, ◌∙◌, arith, append_assoc, length-append}
+use Rattle.std.proofs.{Math.Seq.get_or-append_seam, lemmas.Bool.{and_from, and_parts, lt-ltb, Decides.nat_tests}}
+use Rattle.std.proofs.lemmas.List.{take_at, drop_at, get_or-append-add, Folds.list_all-append, Sums.suffix_len_is}
+use Rattle.std.specs.{Prelude.{decimal, nat_le, nat_lt, nat_eq, ◌==◌, ◌&&◌, ◌||◌, not}, List.list_all}
+use Rattle.std.specs.{Str.all_ascii_digits, Char.is_ascii_digit}
+use Rattle.dir_bytes.{specs.FieldTexts.address_text, proofs.ReadAgain.decimal_digits}
 use Rattle.frame_laws.proofs.WordTexts.{at_index}
 use Rattle.dirdoc_grammar.specs.Writers.{is_argument_byte}
-use Rattle.exit_summary.specs.PolicyItems.{after_len, after_last, before_last, has_last, is_hyphen}
-use Rattle.exit_summary.specs.PolicyItems.{slash, colon}
+use Rattle.exit_summary.specs.PolicyItems.{after_len, after_last, before_last, has_last, is_hyphen, slash, colon}
 
 -- ---- bytes
 

@@ -1,14 +1,10 @@
 -- What the text of a policy's item spells is in range.
 use Rattle.std.proofs.Common.{◌≡◌, ℕ, ◌<◌, ◌≤◌, ◌^◌, Bool, true, false, List, Option, Some, None, refl, arith}
-use Rattle.std.specs.Prelude.{IfSome, codes, nat_le, option_map, if◌then◌else◌}
-use Rattle.std.specs.List.{after_first, before_first, list_any}
-use Rattle.std.specs.Str.{bytes_eq}
-use Rattle.std.proofs.lemmas.Bool.{leb-true}
+use Rattle.std.{proofs.lemmas.Bool.leb-true, specs.Prelude.{IfSome, codes, nat_le, option_map, if◌then◌else◌}}
+use Rattle.std.specs.{List.{after_first, before_first, list_any}, Str.bytes_eq}
 use Rattle.dir_bytes.specs.Fields.{address}
-use Rattle.dir_values.specs.Numbers.{port_of}
-use Rattle.dir_values.specs.declared.policy.Net.{Net}
+use Rattle.dir_values.specs.{Numbers.port_of, declared.policy.{Net.Net, PolicyItem.PolicyItem}}
 use Rattle.dir_values.specs.declared.policy.Net.TheVariants as net
-use Rattle.dir_values.specs.declared.policy.PolicyItem.{PolicyItem}
 use Rattle.exit_summary.specs.PolicyItems.{after_last, before_last, bits_of, bits_up_to, colon, has_last, is_bracketed}
 use Rattle.exit_summary.specs.PolicyItems.{is_hyphen, item_of, item_with, net_of, net_of_parts, net_with, ports_between}
 use Rattle.exit_summary.specs.PolicyItems.{ports_of, slash}

@@ -1,14 +1,11 @@
 -- The ranges of a summary of ports that is read are ranges that are apart.
-use Rattle.std.proofs.Common.{◌≡◌, ℕ, ◌≤◌, Bool, true, false, cond, List, [], ◌∷◌, length, Option, Some, None}
-use Rattle.std.proofs.Common.{Result, Ok, Err, refl, arith}
-use Rattle.std.specs.Prelude.{IfSome, IsTrue, map, nat_le, option_and_then, option_map, if◌then◌else◌}
-use Rattle.std.specs.List.{onto_first, slice_split}
+use Rattle.std.proofs.Common.{◌≡◌, ℕ, ◌≤◌, Bool, true, false, cond, List, [], ◌∷◌, length, Option, Some, None, Result}
+use Rattle.std.{proofs.{Common.{Ok, Err, refl, arith}, lemmas.Bool.{and_from, le-leb}}, specs.Prelude.{IfSome, IsTrue}}
+use Rattle.std.specs.{Prelude.{map, nat_le, option_and_then, option_map, if◌then◌else◌}, List.{onto_first, slice_split}}
 use Rattle.std.specs.Result.{result_ok}
-use Rattle.std.proofs.lemmas.Bool.{and_from, le-leb}
-use Rattle.dir_values.specs.Arguments.{Argument, arguments_at}
-use Rattle.dir_values.specs.Ports.{Ports, accept_of, all_of, are_apart, are_ranges, if_apart, is_comma, port_summary}
-use Rattle.dir_values.specs.Ports.{ports_after, ports_from, ports_in, ports_with, range_list, range_of}
-use Rattle.dir_values.specs.declared.port_range.PortRange.{PortRange}
+use Rattle.dir_values.specs.{Arguments.{Argument, arguments_at}, Ports.{Ports, accept_of, all_of, are_apart}}
+use Rattle.dir_values.specs.Ports.{are_ranges, if_apart, is_comma, port_summary, ports_after, ports_from, ports_in}
+use Rattle.dir_values.specs.{Ports.{ports_with, range_list, range_of}, declared.port_range.PortRange.PortRange}
 use Rattle.dir_values.specs.declared.refusal.ValueRefusal.{ValueRefusal}
 
 -- there is a part

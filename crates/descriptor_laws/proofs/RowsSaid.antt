@@ -1,66 +1,41 @@
 -- What the rows of a server descriptor say is what their kinds ask for.
 use Rattle.std.proofs.Common.{◌≡◌, ℕ, Bool, true, false, List, [], ◌∷◌, Option, Some, None, Result, Ok, refl, ap, ◌∙◌}
-use Rattle.std.proofs.Common.{arith}
-use Rattle.std.specs.Prelude.{◌<◌, ◌^◌, All, IfSome, IsTrue, is_some, option_and_then}
-use Rattle.std.proofs.lemmas.Bool.{both_ways}
-use Rattle.dir_values.specs.Arguments.{Argument}
-use Rattle.dir_values.specs.Ports.{Ports, are_ranges}
-use Rattle.dir_values.specs.declared.digest.Fingerprint.{Fingerprint as Identity}
-use Rattle.dir_values.specs.declared.policy.PolicyItem.{PolicyItem}
-use Rattle.dir_values.specs.declared.refusal.ValueRefusal.{ValueRefusal}
-use Rattle.dir_values.proofs.PortsAgain.{ports_again}
+use Rattle.std.{proofs.{Common.arith, lemmas.Bool.both_ways}, specs.Prelude.{◌<◌, ◌^◌, All, IfSome, IsTrue, is_some}}
+use Rattle.std.specs.Prelude.{option_and_then}
+use Rattle.dir_values.specs.{Arguments.Argument, Ports.{Ports, are_ranges}}
+use Rattle.dir_values.specs.declared.{digest.Fingerprint.Fingerprint as Identity, policy.PolicyItem.PolicyItem}
+use Rattle.dir_values.{specs.declared.refusal.ValueRefusal.ValueRefusal, proofs.PortsAgain.ports_again}
 use Rattle.dirdoc_grammar.specs.Writing.{written}
 use Rattle.grammar_laws.proofs.WrittenBytes.{decoded-body_text}
-use Rattle.descriptor_frame.specs.Certificates.{certificate_of}
-use Rattle.descriptor_frame.specs.declared.certificate.EdCert.{EdCert}
-use Rattle.item_terms.specs.Items.{Item}
-use Rattle.frame_terms.specs.Rows.{is_one, row}
-use Rattle.frame_terms.specs.declared.keyword.Keyword.{Keyword}
-use Rattle.frame_terms.specs.declared.keyword.Keyword.TheVariants as the
-use Rattle.frame_terms.specs.declared.row.Count.{Count}
-use Rattle.frame_terms.specs.declared.row.Count.TheVariants.{One, Optional, Many}
-use Rattle.frame_terms.specs.declared.row.Row.{Row}
-use Rattle.frame_values.specs.Arguments.{arguments_of, next}
-use Rattle.frame_values.specs.Faults.{at_place}
-use Rattle.frame_values.specs.Fields.{span_of}
-use Rattle.frame_values.specs.Items.{bare}
-use Rattle.frame_values.specs.Ranges.{AreTwenty}
-use Rattle.frame_values.specs.Signatures.{object_of}
-use Rattle.frame_values.specs.declared.found.Span.{Span}
-use Rattle.frame_values.specs.declared.values.Value.TheVariants as value
-use Rattle.frame_laws.proofs.Both.{both_hold}
-use Rattle.frame_laws.proofs.Entries.{AlwaysSuits, item_of}
-use Rattle.frame_laws.proofs.ManyRows.{said_of_each}
-use Rattle.frame_laws.proofs.RowCounts.{said_once}
-use Rattle.frame_laws.proofs.RowValues.{moment_entry, row_each, row_if, said_any_if, silent_entry}
-use Rattle.frame_laws.proofs.RowValues.{text_entry}
-use Rattle.frame_laws.proofs.SaidRows.{AreSaid, IsSaid, row_once}
-use Rattle.frame_laws.proofs.Words.{arguments_of_word}
-use Rattle.frame_laws.proofs.WrittenItems.{start_of, time-written}
-use Rattle.descriptor_frame.specs.Fields.{is_address}
-use Rattle.descriptor_frame.specs.Lines.{address_of, is_certificate, ports_at, value_at}
+use Rattle.descriptor_frame.specs.{Certificates.certificate_of, declared.certificate.EdCert.EdCert}
+use Rattle.descriptor_frame.specs.declared.said.{BandwidthLine.BandwidthLine, DescriptorKind.DescriptorKind}
+use Rattle.descriptor_frame.specs.declared.said.{DescriptorValue.DescriptorValue, RouterLine.RouterLine}
+use Rattle.descriptor_frame.specs.{Fields.is_address, Lines.{address_of, is_certificate, ports_at, value_at}}
 use Rattle.descriptor_frame.specs.Tables.{descriptor_tables}
-use Rattle.descriptor_frame.specs.declared.said.BandwidthLine.{BandwidthLine}
-use Rattle.descriptor_frame.specs.declared.said.DescriptorKind.{DescriptorKind}
+use Rattle.item_terms.specs.Items.{Item}
+use Rattle.frame_terms.specs.{Rows.{is_one, row}, declared.{keyword.Keyword.Keyword, row.Count.Count}}
+use Rattle.frame_terms.specs.declared.row.{Count.TheVariants.{One, Optional, Many}, Row.Row}
+use Rattle.frame_terms.specs.declared.keyword.Keyword.TheVariants as the
+use Rattle.frame_values.specs.{Arguments.{arguments_of, next}, Faults.at_place, Fields.span_of, Items.bare}
+use Rattle.frame_values.specs.{Ranges.AreTwenty, Signatures.object_of, declared.found.Span.Span}
+use Rattle.frame_values.specs.declared.values.Value.TheVariants as value
+use Rattle.frame_laws.proofs.{Both.both_hold, Entries.{AlwaysSuits, item_of}, ManyRows.said_of_each}
+use Rattle.frame_laws.proofs.{RowCounts.said_once, RowValues.{moment_entry, row_each, row_if, said_any_if}}
+use Rattle.frame_laws.proofs.{RowValues.{silent_entry, text_entry}, SaidRows.{AreSaid, IsSaid, row_once}}
+use Rattle.frame_laws.proofs.{Words.arguments_of_word, WrittenItems.{start_of, time-written}}
 use Rattle.descriptor_frame.specs.declared.said.DescriptorKind.TheVariants as kind
-use Rattle.descriptor_frame.specs.declared.said.DescriptorValue.{DescriptorValue}
 use Rattle.descriptor_frame.specs.declared.said.DescriptorValue.TheVariants as own
-use Rattle.descriptor_frame.specs.declared.said.RouterLine.{RouterLine}
-use Rattle.descriptor_doc.specs.declared.descriptor.Descriptor.{Descriptor}
-use Rattle.descriptor_doc.specs.declared.descriptor.EdSignature.{EdSignature}
-use Rattle.descriptor_doc.specs.declared.descriptor.Router.{Router}
+use Rattle.descriptor_doc.specs.declared.descriptor.{Descriptor.Descriptor, EdSignature.EdSignature, Router.Router}
 use Rattle.descriptor_text.specs.Texts.{certificate_bytes, policy_keyword}
 use Rattle.descriptor_laws.specs.Ranges.{AreBytes, IsAddressInRange, IsBandwidthInRange, IsCertificateInRange}
 use Rattle.descriptor_laws.specs.Ranges.{IsItemInRange, IsRouterInRange, SaysInRange}
 use Rattle.descriptor_laws.proofs.WrittenLines.{bandwidth_again, hibernating_again, identity_again, key_again}
 use Rattle.descriptor_laws.proofs.WrittenLines.{router_again, signature_again, uptime_again}
-use Rattle.descriptor_laws.proofs.WrittenPolicies.{policy_again}
-use Rattle.descriptor_laws.proofs.DescriptorRows.{Says, Written}
-use Rattle.descriptor_laws.proofs.DescriptorRows.{back_rows, bandwidth_entry, certificate_entry, ed_signature_entry}
-use Rattle.descriptor_laws.proofs.DescriptorRows.{family_entry, first_row, front_rows, groups_entry}
-use Rattle.descriptor_laws.proofs.DescriptorRows.{hibernating_entry, key_entry, key_object, last_row, marks_if}
-use Rattle.descriptor_laws.proofs.DescriptorRows.{policy_entry, policy_row, ports_entry, router_entry, row_maybe}
-use Rattle.descriptor_laws.proofs.DescriptorRows.{signature_entry, uptime_entry}
+use Rattle.descriptor_laws.proofs.{WrittenPolicies.policy_again, DescriptorRows.{Says, Written, back_rows}}
+use Rattle.descriptor_laws.proofs.DescriptorRows.{bandwidth_entry, certificate_entry, ed_signature_entry, family_entry}
+use Rattle.descriptor_laws.proofs.DescriptorRows.{first_row, front_rows, groups_entry, hibernating_entry, key_entry}
+use Rattle.descriptor_laws.proofs.DescriptorRows.{key_object, last_row, marks_if, policy_entry, policy_row, ports_entry}
+use Rattle.descriptor_laws.proofs.DescriptorRows.{router_entry, row_maybe, signature_entry, uptime_entry}
 
 -- ---- what its items say
 

@@ -1,8 +1,7 @@
 -- The signer that an Ed25519 certificate names has thirty-two bytes.
 use Rattle.std.proofs.Common.{◌≡◌, ℕ, zero, suc, ◌+◌, ◌-◌, Bool, true, false, List, length, drop, Option, Some, None}
-use Rattle.std.proofs.Common.{refl}
-use Rattle.std.specs.Prelude.{IfSome, ◌==◌, ◌&&◌, ◌%◌, nat_le, slice_index, if◌then◌else◌}
-use Rattle.std.proofs.lemmas.Bool.{eqb-true}
+use Rattle.std.{proofs.{Common.refl, lemmas.Bool.eqb-true}, specs.Prelude.{IfSome, ◌==◌, ◌&&◌, ◌%◌, nat_le}}
+use Rattle.std.specs.Prelude.{slice_index, if◌then◌else◌}
 use Rattle.base64.specs.GeneralPurpose.{IsBytes}
 use Rattle.descriptor_frame.specs.Certificates.{begins_well, certificate_of, content_len, content_of, covered_part}
 use Rattle.descriptor_frame.specs.Certificates.{extensions_of, first_extension, signer_after, signer_in, signer_of}

@@ -1,52 +1,35 @@
 -- What is read of the rows of a server descriptor.
-use Rattle.std.proofs.Common.{◌≡◌, ℕ, ◌+◌, Bool, true, false, List, [], ◌∷◌, ◌++◌, Option, Some, None, Result, refl, sym, ap}
-use Rattle.std.proofs.Common.{subst, ◌∙◌, append_assoc, arith}
-use Rattle.std.specs.Prelude.{All, IfSome, IsTrue, filter_map, map, option_map, option_and_then, if◌then◌else◌}
-use Rattle.std.specs.Result.{result_ok}
+use Rattle.std.proofs.Common.{◌≡◌, ℕ, ◌+◌, Bool, true, false, List, [], ◌∷◌, ◌++◌, Option, Some, None, Result, refl}
+use Rattle.std.proofs.{Common.{sym, ap, subst, ◌∙◌, append_assoc, arith}, lemmas.{Bool.le-leb, List.Elements.All-head}}
+use Rattle.std.{proofs.lemmas.List.Elements.{All-tail, filter_map-append}, specs.Prelude.{All, IfSome, IsTrue}}
+use Rattle.std.specs.{Prelude.{filter_map, map, option_map, option_and_then, if◌then◌else◌}, Result.result_ok}
 use Rattle.std.specs.List.{cons_option}
-use Rattle.std.proofs.lemmas.Bool.{le-leb}
-use Rattle.std.proofs.lemmas.List.Elements.{All-head, All-tail, filter_map-append}
 use Rattle.item_terms.specs.Words.{words_of}
 use Rattle.dir_bytes.specs.FieldTexts.{address_text}
-use Rattle.dir_values.specs.Ports.{Ports, are_ranges, port_summary}
-use Rattle.dir_values.specs.declared.policy.Net.{Net}
-use Rattle.dir_values.specs.declared.policy.Net.TheVariants.{Star, V4, V6}
-use Rattle.dir_values.specs.declared.policy.PolicyItem.{PolicyItem}
-use Rattle.dir_values.specs.declared.refusal.ValueRefusal.{ValueRefusal}
-use Rattle.dir_values.proofs.PortsAgain.{ports_again}
+use Rattle.dir_values.specs.{Ports.{Ports, are_ranges, port_summary}, declared.policy.Net.{Net, TheVariants.{Star, V4}}}
+use Rattle.dir_values.specs.declared.policy.{Net.TheVariants.V6, PolicyItem.PolicyItem}
+use Rattle.dir_values.{specs.declared.refusal.ValueRefusal.ValueRefusal, proofs.PortsAgain.ports_again}
 use Rattle.dirdoc_grammar.specs.Writers.{is_argument}
-use Rattle.descriptor_frame.specs.Certificates.{certificate_of}
-use Rattle.descriptor_frame.specs.declared.certificate.EdCert.{EdCert}
+use Rattle.descriptor_frame.specs.{Certificates.certificate_of, declared.certificate.EdCert.EdCert}
+use Rattle.descriptor_frame.specs.declared.said.{DescriptorKind.DescriptorKind, DescriptorValue.DescriptorValue}
 use Rattle.exit_summary.specs.Policies.{is_net}
-use Rattle.frame_terms.specs.Keywords.{same}
-use Rattle.frame_terms.specs.Rows.{row}
-use Rattle.frame_terms.specs.declared.document.Taken.{Taken}
-use Rattle.frame_terms.specs.declared.keyword.Keyword.{Keyword}
-use Rattle.frame_terms.specs.declared.keyword.Keyword.TheVariants as the
+use Rattle.frame_terms.specs.{Keywords.same, Rows.row, declared.{document.Taken.Taken, keyword.Keyword.Keyword}}
 use Rattle.frame_terms.specs.declared.row.Row.{Row}
-use Rattle.frame_values.specs.Fields.{span}
-use Rattle.frame_values.specs.Parts.{bytes_in, part}
-use Rattle.frame_values.specs.Values.{item_at, text_if, text_of_value}
+use Rattle.frame_terms.specs.declared.keyword.Keyword.TheVariants as the
+use Rattle.frame_values.specs.{Fields.span, Parts.{bytes_in, part}, Values.{item_at, text_if, text_of_value}}
 use Rattle.frame_values.specs.declared.found.Span.{Span}
-use Rattle.frame_laws.proofs.Both.{both_hold}
-use Rattle.frame_laws.proofs.Entries.{after_one, all_taken, taken_at}
-use Rattle.frame_laws.proofs.Places.{after_all, all_taken-append}
-use Rattle.frame_laws.proofs.ReadRows.{IsRead, Stand, item_of_row}
-use Rattle.frame_laws.proofs.RowValues.{row_each, text_entry, text_entry_if}
-use Rattle.frame_laws.proofs.SaidRows.{entries_of, items_at, row_once}
-use Rattle.frame_laws.proofs.StandingParts.{part_of_part, rest_part, spelled}
-use Rattle.frame_laws.proofs.Words.{words_of-join}
-use Rattle.descriptor_frame.specs.declared.said.DescriptorKind.{DescriptorKind}
-use Rattle.descriptor_frame.specs.declared.said.DescriptorValue.{DescriptorValue}
-use Rattle.descriptor_doc.specs.Descriptors.{certificate_in, ports_in, router_in, words_in}
-use Rattle.descriptor_doc.specs.Saying.{ItemIf, address_if, is_there, object_if, policy_if, policy_of_value}
-use Rattle.descriptor_doc.specs.Saying.{router_in as router_said}
-use Rattle.descriptor_doc.specs.declared.descriptor.Router.{Router}
+use Rattle.frame_laws.proofs.{Both.both_hold, Entries.{after_one, all_taken, taken_at}, Places.after_all}
+use Rattle.frame_laws.proofs.{Places.all_taken-append, ReadRows.{IsRead, Stand, item_of_row}, RowValues.row_each}
+use Rattle.frame_laws.proofs.{RowValues.{text_entry, text_entry_if}, SaidRows.{entries_of, items_at, row_once}}
+use Rattle.frame_laws.proofs.{StandingParts.{part_of_part, rest_part, spelled}, Words.words_of-join}
+use Rattle.descriptor_doc.specs.{Descriptors.{certificate_in, ports_in, router_in, words_in}, Saying.ItemIf}
+use Rattle.descriptor_doc.specs.Saying.{address_if, is_there, object_if, policy_if, policy_of_value}
+use Rattle.descriptor_doc.specs.{Saying.router_in as router_said, declared.descriptor.Router.Router}
 use Rattle.descriptor_text.specs.Lines.{ports_text, router_text}
-use Rattle.descriptor_laws.specs.Lines.{rest_start}
-use Rattle.descriptor_laws.specs.Ranges.{IsCertificateInRange, IsItemInRange, IsNetInRange}
-use Rattle.descriptor_laws.proofs.DescriptorRows.{RowOf, Says, Written, certificate_entry, entries_if, family_entry, key_object}
-use Rattle.descriptor_laws.proofs.DescriptorRows.{marks_if, policy_entry, ports_entry, router_entry, row_maybe}
+use Rattle.descriptor_laws.specs.{Lines.rest_start, Ranges.{IsCertificateInRange, IsItemInRange, IsNetInRange}}
+use Rattle.descriptor_laws.proofs.DescriptorRows.{RowOf, Says, Written, certificate_entry, entries_if, family_entry}
+use Rattle.descriptor_laws.proofs.DescriptorRows.{key_object, marks_if, policy_entry, ports_entry, router_entry}
+use Rattle.descriptor_laws.proofs.DescriptorRows.{row_maybe}
 
 -- ---- rows of one item at most
 

@@ -1,37 +1,27 @@
 -- Lines of a server descriptor that were written are read again.
 use Rattle.std.proofs.Common.{◌≡◌, ℕ, zero, suc, ◌+◌, ◌*◌, ◌≤◌, ◌<◌, ◌^◌, true, false, List, [], ◌∷◌, ◌++◌, length, map}
 use Rattle.std.proofs.Common.{Option, Some, Result, Ok, refl, sym, ap, subst, ◌∙◌, arith, append_assoc}
-use Rattle.std.specs.Prelude.{decimal}
-use Rattle.std.specs.List.{join_with_byte}
-use Rattle.std.proofs.lemmas.List.Elements.{All-cons, All-nil}
+use Rattle.std.{proofs.lemmas.List.Elements.{All-cons, All-nil}, specs.{Prelude.decimal, List.join_with_byte}}
 use Rattle.base64.specs.GeneralPurpose.{IsBytes}
 use Rattle.item_terms.specs.Items.{Item}
-use Rattle.dir_bytes.specs.FieldTexts.{address_text, base64_text, hex_text}
-use Rattle.dir_bytes.specs.Fields.{address, base64, number}
-use Rattle.dir_bytes.proofs.Spelling.{length-base64_text}
-use Rattle.dir_bytes.proofs.ReadAgain.{address-address_text, base64-base64_text, hex-hex_text, number-decimal}
-use Rattle.dir_values.specs.Arguments.{Argument}
-use Rattle.dir_values.specs.Names.{is_nickname}
-use Rattle.dir_values.specs.Numbers.{port_of}
+use Rattle.dir_bytes.specs.{FieldTexts.{address_text, base64_text, hex_text}, Fields.{address, base64, number}}
+use Rattle.dir_bytes.proofs.{Spelling.length-base64_text, ReadAgain.{address-address_text, base64-base64_text}}
+use Rattle.dir_bytes.proofs.ReadAgain.{hex-hex_text, number-decimal}
+use Rattle.dir_values.specs.{Arguments.Argument, Names.is_nickname, Numbers.port_of}
 use Rattle.dirdoc_grammar.specs.Writing.{written}
 use Rattle.frame_terms.specs.declared.keyword.Keyword.{Keyword}
-use Rattle.frame_values.specs.Arguments.{arguments_of, next}
-use Rattle.frame_values.specs.Fields.{span_of}
-use Rattle.frame_values.specs.Items.{bare}
-use Rattle.frame_laws.proofs.Base64Words.{word_of_base64}
-use Rattle.frame_laws.proofs.Words.{AreWords, IsWord, arguments_of_word, arguments_of_words, placed, two_words}
-use Rattle.frame_laws.proofs.Words.{word_of_address, word_of_hex, word_of_nickname, word_of_number}
+use Rattle.frame_values.specs.{Arguments.{arguments_of, next}, Fields.span_of, Items.bare}
+use Rattle.frame_laws.proofs.{Base64Words.word_of_base64, Words.{AreWords, IsWord, arguments_of_word}}
+use Rattle.frame_laws.proofs.Words.{arguments_of_words, placed, two_words, word_of_address, word_of_hex}
+use Rattle.frame_laws.proofs.Words.{word_of_nickname, word_of_number}
 use Rattle.descriptor_frame.specs.Fields.{groups_of, hibernating, key, long_number, padded_key, signature}
-use Rattle.descriptor_frame.specs.Fields.{without_padding}
-use Rattle.descriptor_frame.specs.Lines.{bandwidth_of, first_of, identity_of, router_of}
+use Rattle.descriptor_frame.specs.{Fields.without_padding, Lines.{bandwidth_of, first_of, identity_of, router_of}}
 use Rattle.descriptor_frame.specs.declared.said.BandwidthLine.{BandwidthLine}
 use Rattle.descriptor_doc.specs.declared.descriptor.Router.{Router}
 use Rattle.descriptor_text.specs.Lines.{groups_from, groups_text, router_text}
 use Rattle.descriptor_laws.specs.Lines.{BandwidthLinesAreReadAgain, HibernatingLinesAreReadAgain, KeyLinesAreReadAgain}
-use Rattle.descriptor_laws.specs.Lines.{IdentityLinesAreReadAgain}
-use Rattle.descriptor_laws.specs.Lines.{RouterLinesAreReadAgain, SignatureLinesAreReadAgain, UptimeLinesAreReadAgain}
-use Rattle.descriptor_laws.specs.Lines.{rest_start}
-use Rattle.descriptor_laws.specs.Ranges.{AreBytes, IsRouterInRange}
+use Rattle.descriptor_laws.specs.Lines.{IdentityLinesAreReadAgain, RouterLinesAreReadAgain, SignatureLinesAreReadAgain}
+use Rattle.descriptor_laws.specs.{Lines.{UptimeLinesAreReadAgain, rest_start}, Ranges.{AreBytes, IsRouterInRange}}
 
 -- ---- an item whose arguments are known
 

@@ -1,31 +1,21 @@
 -- A line of an exit policy that was written is read again.
-use Rattle.std.proofs.Common.{◌≡◌, ℕ, ◌-◌, ◌≤◌, ◌<◌, ◌^◌, Bool, true, false, List, [], ◌∷◌, ◌++◌}
-use Rattle.std.proofs.Common.{length, Option, Some, None, refl, sym, ap, ◌∙◌, arith}
-use Rattle.std.proofs.Common.{length-append}
-use Rattle.std.specs.Prelude.{decimal, nat_le, ◌==◌, ◌&&◌, option_and_then, option_map}
-use Rattle.std.specs.Prelude.{if◌then◌else◌, codes, slice_index}
-use Rattle.std.specs.List.{list_all}
-use Rattle.std.proofs.lemmas.Bool.{and_parts, eqb-true, le-leb}
-use Rattle.dir_bytes.specs.FieldTexts.{address_text}
-use Rattle.dir_bytes.specs.Fields.{address}
-use Rattle.dir_bytes.proofs.ReadAgain.{address-address_text, number-decimal}
-use Rattle.dir_values.specs.declared.policy.Net.{Net}
-use Rattle.dir_values.specs.declared.policy.Net.TheVariants.{Star, V4, V6}
-use Rattle.dir_values.specs.declared.policy.PolicyItem.{PolicyItem}
-use Rattle.frame_laws.proofs.WordTexts.{Dark, both_dark, is_word, length-word, weaker}
-use Rattle.frame_laws.proofs.Words.{IsWord, word_of_address}
+use Rattle.std.proofs.Common.{◌≡◌, ℕ, ◌-◌, ◌≤◌, ◌<◌, ◌^◌, Bool, true, false, List, [], ◌∷◌, ◌++◌, length, Option, Some}
+use Rattle.std.proofs.{Common.{None, refl, sym, ap, ◌∙◌, arith, length-append}, lemmas.Bool.{and_parts, eqb-true}}
+use Rattle.std.{proofs.lemmas.Bool.le-leb, specs.Prelude.{decimal, nat_le, ◌==◌, ◌&&◌, option_and_then, option_map}}
+use Rattle.std.specs.{Prelude.{if◌then◌else◌, codes, slice_index}, List.list_all}
+use Rattle.dir_bytes.{specs.{FieldTexts.address_text, Fields.address}, proofs.ReadAgain.address-address_text}
+use Rattle.dir_bytes.proofs.ReadAgain.{number-decimal}
+use Rattle.dir_values.specs.declared.policy.{Net.{Net, TheVariants.{Star, V4, V6}}, PolicyItem.PolicyItem}
+use Rattle.frame_laws.proofs.{WordTexts.{Dark, both_dark, is_word, length-word, weaker}, Words.IsWord}
+use Rattle.frame_laws.proofs.Words.{word_of_address}
 use Rattle.dirdoc_grammar.specs.Writers.{is_argument_byte}
-use Rattle.exit_summary.specs.PolicyItems.{after_last, before_last, has_last, item_of, item_with, net_of}
-use Rattle.exit_summary.specs.PolicyItems.{at_most, bits_of, bits_up_to, first_of, net_of_parts, ones_of}
-use Rattle.exit_summary.specs.PolicyItems.{net_with, ports_of, slash, colon, is_bracketed}
-use Rattle.exit_summary.specs.Texts.{item_text, net_text, ports_text, v4_text}
-use Rattle.descriptor_laws.specs.Lines.{PolicyLinesAreReadAgain}
-use Rattle.descriptor_laws.specs.Ranges.{IsItemInRange, IsNetInRange}
-use Rattle.descriptor_laws.proofs.WrittenLines.{word_again}
-use Rattle.descriptor_laws.proofs.PlainTexts.{Plain, address_plain}
-use Rattle.descriptor_laws.proofs.PlainTexts.{decimal_plain, is_plain, lacks}
-use Rattle.descriptor_laws.proofs.PlainTexts.{no_bracket, no_last, no_slash, no_star}
-use Rattle.descriptor_laws.proofs.PlainTexts.{plain_argument, split_last}
+use Rattle.exit_summary.specs.PolicyItems.{after_last, before_last, has_last, item_of, item_with, net_of, at_most}
+use Rattle.exit_summary.specs.PolicyItems.{bits_of, bits_up_to, first_of, net_of_parts, ones_of, net_with, ports_of}
+use Rattle.exit_summary.specs.{PolicyItems.{slash, colon, is_bracketed}, Texts.{item_text, net_text, ports_text}}
+use Rattle.exit_summary.specs.Texts.{v4_text}
+use Rattle.descriptor_laws.specs.{Lines.PolicyLinesAreReadAgain, Ranges.{IsItemInRange, IsNetInRange}}
+use Rattle.descriptor_laws.proofs.{WrittenLines.word_again, PlainTexts.{Plain, address_plain, decimal_plain, is_plain}}
+use Rattle.descriptor_laws.proofs.PlainTexts.{lacks, no_bracket, no_last, no_slash, no_star, plain_argument, split_last}
 use Rattle.descriptor_laws.proofs.WrittenPorts.{ports_again}
 
 -- ---- nets

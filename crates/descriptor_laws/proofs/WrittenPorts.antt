@@ -1,27 +1,16 @@
 -- The ports of an exit policy's item that were written are read again.
-use Rattle.std.proofs.Common.{◌≡◌, ℕ, ◌+◌, ◌≤◌, ◌<◌, Bool, true, false, List, [], ◌∷◌, ◌++◌}
-use Rattle.std.proofs.Common.{length, take, drop, Option, Some, None, refl, sym, ap, ◌∙◌, arith, append_assoc}
-use Rattle.std.proofs.Common.{length-append}
-use Rattle.std.specs.Prelude.{decimal, ◌==◌, ◌&&◌, ◌||◌}
-use Rattle.std.specs.Prelude.{if◌then◌else◌, codes}
-use Rattle.std.specs.List.{list_all, list_any, before_first, after_first, position_or_len}
-use Rattle.std.proofs.lemmas.Bool.{and_from, and_parts, eqb-true, le-leb, or_from}
-use Rattle.std.proofs.lemmas.List.{take_at, drop_at}
-use Rattle.std.proofs.lemmas.List.Folds.{list_all-append}
-use Rattle.item_terms.specs.Bytes.{hyphen}
-use Rattle.item_terms.specs.Words.{first_is}
+use Rattle.std.proofs.Common.{◌≡◌, ℕ, ◌+◌, ◌≤◌, ◌<◌, Bool, true, false, List, [], ◌∷◌, ◌++◌, length, take, drop, Option}
+use Rattle.std.proofs.Common.{Some, None, refl, sym, ap, ◌∙◌, arith, append_assoc, length-append}
+use Rattle.std.proofs.lemmas.{Bool.{and_from, and_parts, eqb-true, le-leb, or_from}, List.{take_at, drop_at}}
+use Rattle.std.{proofs.lemmas.List.Folds.list_all-append, specs.Prelude.{decimal, ◌==◌, ◌&&◌, ◌||◌, if◌then◌else◌}}
+use Rattle.std.specs.{Prelude.codes, List.{list_all, list_any, before_first, after_first, position_or_len}}
+use Rattle.item_terms.specs.{Bytes.hyphen, Words.first_is}
 use Rattle.dir_values.specs.Numbers.{port_of}
-use Rattle.frame_laws.proofs.WordTexts.{Dark, both_dark, length-word, weaker}
-use Rattle.frame_laws.proofs.Words.{word_of_number}
+use Rattle.frame_laws.proofs.{WordTexts.{Dark, both_dark, length-word, weaker}, Words.word_of_number}
 use Rattle.dirdoc_grammar.specs.Writers.{is_argument_byte}
-use Rattle.exit_summary.specs.PolicyItems.{is_hyphen}
-use Rattle.exit_summary.specs.PolicyItems.{ports_between, ports_of, colon}
-use Rattle.exit_summary.specs.Texts.{ports_text}
-use Rattle.descriptor_laws.proofs.WrittenLines.{port_again}
-use Rattle.descriptor_laws.proofs.PlainTexts.{Plain}
-use Rattle.descriptor_laws.proofs.PlainTexts.{decimal_plain, is_plain, lacks}
-use Rattle.descriptor_laws.proofs.PlainTexts.{no_colon, no_hyphen, no_star}
-use Rattle.descriptor_laws.proofs.PlainTexts.{plain_argument}
+use Rattle.exit_summary.specs.{PolicyItems.{is_hyphen, ports_between, ports_of, colon}, Texts.ports_text}
+use Rattle.descriptor_laws.proofs.{WrittenLines.port_again, PlainTexts.{Plain, decimal_plain, is_plain, lacks}}
+use Rattle.descriptor_laws.proofs.PlainTexts.{no_colon, no_hyphen, no_star, plain_argument}
 
 -- ---- ports
 

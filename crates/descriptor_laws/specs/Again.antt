@@ -7,12 +7,10 @@ use Rattle.dirdoc_grammar.specs.Writing.{NewItem, items_text}
 use Rattle.frame_terms.specs.Keywords.{text_of}
 use Rattle.frame_terms.specs.declared.keyword.Keyword.TheVariants as the
 use Rattle.frame_values.specs.Items.{bare, item_if}
-use Rattle.descriptor_doc.specs.declared.descriptor.Descriptor.{Descriptor}
-use Rattle.descriptor_doc.specs.declared.descriptor.EdSignature.{EdSignature}
-use Rattle.descriptor_doc.specs.Descriptors.{ed_prefix}
-use Rattle.descriptor_doc.specs.Reading.{descriptor_of}
-use Rattle.descriptor_text.specs.Lines.{ed_signature_text}
-use Rattle.descriptor_text.specs.Texts.{address_items, descriptor_text, exit_items, front_items, service_items}
+use Rattle.descriptor_doc.specs.declared.descriptor.{Descriptor.Descriptor, EdSignature.EdSignature}
+use Rattle.descriptor_doc.specs.{Descriptors.ed_prefix, Reading.descriptor_of}
+use Rattle.descriptor_text.specs.{Lines.ed_signature_text, Texts.{address_items, descriptor_text, exit_items}}
+use Rattle.descriptor_text.specs.Texts.{front_items, service_items}
 use Rattle.descriptor_laws.specs.Ranges.{IsInRange}
 
 -- the items before both signatures

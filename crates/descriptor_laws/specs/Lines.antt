@@ -2,19 +2,13 @@
 use Rattle.std.specs.Prelude.{◌≡◌, ℕ, ◌<◌, ◌^◌, Bool, List, ◌++◌, Ok, decimal}
 use Rattle.item_terms.specs.Words.{argument_start}
 use Rattle.dir_bytes.specs.FieldTexts.{base64_text}
-use Rattle.dir_values.specs.declared.digest.Fingerprint.{Fingerprint}
-use Rattle.dir_values.specs.declared.policy.PolicyItem.{PolicyItem}
+use Rattle.dir_values.specs.declared.{digest.Fingerprint.Fingerprint, policy.PolicyItem.PolicyItem}
 use Rattle.dirdoc_grammar.specs.Writing.{tail, written}
-use Rattle.frame_terms.specs.Keywords.{text_of}
-use Rattle.frame_terms.specs.declared.keyword.Keyword.{Keyword}
-use Rattle.frame_values.specs.Fields.{span}
-use Rattle.frame_values.specs.Items.{bare}
-use Rattle.frame_values.specs.Ranges.{AreTwenty}
-use Rattle.exit_summary.specs.PolicyItems.{item_of}
-use Rattle.exit_summary.specs.Texts.{item_text}
-use Rattle.descriptor_frame.specs.Fields.{hibernating, key, long_number, padded_key, signature}
-use Rattle.descriptor_frame.specs.Lines.{bandwidth_of, first_of, identity_of, router_of}
-use Rattle.descriptor_frame.specs.declared.said.BandwidthLine.{BandwidthLine}
+use Rattle.frame_terms.specs.{Keywords.text_of, declared.keyword.Keyword.Keyword}
+use Rattle.frame_values.specs.{Fields.span, Items.bare, Ranges.AreTwenty}
+use Rattle.exit_summary.specs.{PolicyItems.item_of, Texts.item_text}
+use Rattle.descriptor_frame.specs.{Fields.{hibernating, key, long_number, padded_key, signature}, Lines.bandwidth_of}
+use Rattle.descriptor_frame.specs.{Lines.{first_of, identity_of, router_of}, declared.said.BandwidthLine.BandwidthLine}
 use Rattle.descriptor_frame.specs.declared.said.RouterLine.{RouterLine}
 use Rattle.descriptor_doc.specs.declared.descriptor.Router.{Router}
 use Rattle.descriptor_text.specs.Lines.{bandwidth_text, groups_text, hibernating_text, router_text}

@@ -1,9 +1,8 @@
 -- A microdescriptor that was written is read again (dir-spec, "Computing microdescriptors").
 use Rattle.std.specs.Prelude.{◌≡◌, ℕ, List, [], ◌∷◌, ◌++◌, length, Ok}
 use Rattle.dirdoc_grammar.specs.Writing.{IsWritable}
-use Rattle.micro_desc.specs.declared.micro.Micro.{Micro}
-use Rattle.micro_desc.specs.Reading.{max_micro, micro_of}
-use Rattle.micro_desc.specs.Texts.{micro_text, onion_key_item}
+use Rattle.micro_desc.specs.{declared.micro.Micro.Micro, Reading.{max_micro, micro_of}, Texts.micro_text}
+use Rattle.micro_desc.specs.Texts.{onion_key_item}
 use Rattle.descriptor_laws.specs.MicroRanges.{IsInRange}
 
 -- A microdescriptor that was written is read again: what is read says the same, and ends with the text.

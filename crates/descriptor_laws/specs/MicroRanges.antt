@@ -1,14 +1,10 @@
 -- What a microdescriptor may say that is written and read again (dir-spec, "Computing microdescriptors").
 use Rattle.std.specs.Prelude.{◌≡◌, true, All, IfSome}
-use Rattle.dirdoc_grammar.specs.Writers.{is_argument}
-use Rattle.dirdoc_grammar.specs.Writing.{AreWritable}
+use Rattle.dirdoc_grammar.specs.{Writers.is_argument, Writing.AreWritable}
 use Rattle.frame_values.specs.Ranges.{AreTwenty}
 use Rattle.descriptor_laws.specs.Ranges.{AreBytes}
-use Rattle.micro_desc.specs.declared.said.MicroId.{MicroId}
-use Rattle.micro_desc.specs.declared.said.MicroId.TheVariants.{Ed25519, Rsa1024}
-use Rattle.micro_desc.specs.declared.micro.Micro.{Micro}
-use Rattle.micro_desc.specs.Reading.{max_micro}
-use Rattle.micro_desc.specs.Texts.{micro_items}
+use Rattle.micro_desc.specs.declared.{said.MicroId.{MicroId, TheVariants.{Ed25519, Rsa1024}}, micro.Micro.Micro}
+use Rattle.micro_desc.specs.{Reading.max_micro, Texts.micro_items}
 
 -- a key of 32 bytes, or an RSA identity of twenty
 abbrev pub IsIdInRange : MicroId → Type 0

@@ -2,21 +2,13 @@
 use Rattle.std.specs.Prelude.{◌≡◌, IsTrue, ℕ, ◌<◌, ◌≤◌, ◌^◌, true, List, length, All, IfSome, Some}
 use Rattle.base64.specs.GeneralPurpose.{IsBytes}
 use Rattle.dir_bytes.specs.Causes.{last_moment}
-use Rattle.dir_values.specs.Names.{is_nickname}
-use Rattle.dir_values.specs.Ports.{are_ranges}
-use Rattle.dir_values.specs.declared.policy.Net.{Net}
+use Rattle.dir_values.specs.{Names.is_nickname, Ports.are_ranges, declared.policy.{Net.Net, PolicyItem.PolicyItem}}
 use Rattle.dir_values.specs.declared.policy.Net.TheVariants as net
-use Rattle.dir_values.specs.declared.policy.PolicyItem.{PolicyItem}
-use Rattle.dirdoc_grammar.specs.Writers.{is_argument}
-use Rattle.dirdoc_grammar.specs.Writing.{AreWritable}
-use Rattle.descriptor_frame.specs.Certificates.{certificate_of}
-use Rattle.descriptor_frame.specs.declared.certificate.EdCert.{EdCert}
+use Rattle.dirdoc_grammar.specs.{Writers.is_argument, Writing.AreWritable}
+use Rattle.descriptor_frame.specs.{Certificates.certificate_of, declared.certificate.EdCert.EdCert}
+use Rattle.descriptor_frame.specs.{declared.said.BandwidthLine.BandwidthLine, Fields.is_address}
 use Rattle.frame_values.specs.Ranges.{AreTwenty}
-use Rattle.descriptor_frame.specs.Fields.{is_address}
-use Rattle.descriptor_frame.specs.declared.said.BandwidthLine.{BandwidthLine}
-use Rattle.descriptor_doc.specs.declared.descriptor.Descriptor.{Descriptor}
-use Rattle.descriptor_doc.specs.declared.descriptor.Router.{Router}
-use Rattle.descriptor_doc.specs.Reading.{max_descriptor}
+use Rattle.descriptor_doc.specs.{declared.descriptor.{Descriptor.Descriptor, Router.Router}, Reading.max_descriptor}
 use Rattle.descriptor_text.specs.Texts.{certificate_bytes, descriptor_items}
 
 -- there are so many bytes

@@ -1,8 +1,7 @@
 -- What is read of a microdescriptor is in range (dir-spec, "Computing microdescriptors").
 use Rattle.std.specs.Prelude.{◌≡◌, ℕ, List, Ok}
 use Rattle.base64.specs.GeneralPurpose.{IsBytes}
-use Rattle.micro_desc.specs.declared.micro.Micro.{Micro}
-use Rattle.micro_desc.specs.Reading.{micro_of}
+use Rattle.micro_desc.specs.{declared.micro.Micro.Micro, Reading.micro_of}
 use Rattle.descriptor_laws.specs.MicroRanges.{SaysInRange}
 
 -- A microdescriptor that is read from bytes says what can be read.

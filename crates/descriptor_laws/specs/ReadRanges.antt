@@ -4,8 +4,7 @@ use Rattle.base64.specs.GeneralPurpose.{IsBytes}
 use Rattle.dir_bytes.specs.Causes.{last_moment}
 use Rattle.dirdoc_grammar.specs.Writing.{IsLineRest}
 use Rattle.group_laws.specs.Ranges.{AreThirtyTwo, IsAddressInRange, IsRelayInRange}
-use Rattle.descriptor_doc.specs.Reading.{descriptor_of, max_descriptor}
-use Rattle.descriptor_doc.specs.declared.descriptor.Descriptor.{Descriptor}
+use Rattle.descriptor_doc.specs.{Reading.{descriptor_of, max_descriptor}, declared.descriptor.Descriptor.Descriptor}
 
 -- a text that may be the rest of a line, of no more bytes than a descriptor has
 pub record IsShortRest (text : List ℕ) : Type 0 where

@@ -1,6 +1,5 @@
 // What the definitions of reading and of writing have in common.
-ghost use Rattle.descriptor_laws.specs.Again.{DescriptorsAreReadAgain};
-ghost use Rattle.descriptor_laws.specs.Lines.{DescriptorLinesAreReadAgain};
+ghost use Rattle.descriptor_laws.specs.{Again.DescriptorsAreReadAgain, Lines.DescriptorLinesAreReadAgain};
 
 /// A law: lines of server descriptors that were written are read as what they were written for: a relay, what it can carry,
 /// an identity in groups, the items of an exit policy, keys and signatures.

@@ -1,19 +1,13 @@
 -- The tables of each of these kinds of documents are clear: they pass the tests.
-use Rattle.std.proofs.Common.{◌≡◌, true, [], ◌∷◌, refl}
-use Rattle.std.specs.Prelude.{IfSome}
-use Rattle.frame_terms.specs.Keywords.{same}
-use Rattle.frame_terms.specs.Order.{opener}
-use Rattle.consensus_frame.specs.declared.rows.ConsensusSection.{ConsensusSection}
+use Rattle.std.{proofs.Common.{◌≡◌, true, [], ◌∷◌, refl}, specs.Prelude.IfSome}
+use Rattle.frame_terms.specs.{Keywords.same, Order.opener}
+use Rattle.consensus_frame.specs.{declared.rows.ConsensusSection.ConsensusSection, Tables.consensus_tables}
 use Rattle.consensus_frame.specs.declared.rows.ConsensusSection.TheVariants as consensus
-use Rattle.consensus_frame.specs.Tables.{consensus_tables}
-use Rattle.consensus_terms.specs.declared.flavour.Flavour.{Flavour}
-use Rattle.consensus_terms.specs.declared.flavour.Flavour.TheVariants.{Ns, Microdesc}
+use Rattle.consensus_terms.specs.declared.flavour.Flavour.{Flavour, TheVariants.{Ns, Microdesc}}
 use Rattle.descriptor_frame.specs.Tables.{descriptor_tables}
 use Rattle.detached_frame.specs.Tables.{detached_tables}
 use Rattle.micro_desc.specs.Tables.{micro_tables}
-use Rattle.document_laws.specs.Tests.{IsRegarded, PassTests, is_clear}
-use Rattle.document_laws.proofs.Exact.{are_exact}
-use Rattle.document_laws.proofs.Tested.{are_clear}
+use Rattle.document_laws.{specs.Tests.{IsRegarded, PassTests, is_clear}, proofs.{Exact.are_exact, Tested.are_clear}}
 use Rattle.descriptor_parts.specs.Kinds.{KindsAreClear, KindsAreExact}
 
 -- ---- documents of one section

@@ -2,17 +2,12 @@
 use Rattle.std.proofs.Common.{◌≡◌, ℕ, ◌+◌, ◌-◌, List, [], ◌∷◌, length, take, drop, Result, Ok, Err, refl, sym, ap}
 use Rattle.std.proofs.Common.{subst, ◌∙◌}
 use Rattle.item_terms.specs.Items.{Item, items_of}
-use Rattle.frame_terms.specs.Documents.{Document, document_of, finish, group}
-use Rattle.frame_terms.specs.declared.document.Group.{Group}
-use Rattle.frame_terms.specs.declared.document.Taken.{Taken}
-use Rattle.frame_terms.specs.declared.fault.ReadRefusal.{ReadRefusal}
-use Rattle.frame_terms.specs.declared.keyword.Keyword.{Keyword}
+use Rattle.frame_terms.specs.{Documents.{Document, document_of, finish, group}, declared.document.Group.Group}
+use Rattle.frame_terms.specs.declared.{document.Taken.Taken, fault.ReadRefusal.ReadRefusal, keyword.Keyword.Keyword}
 use Rattle.frame_terms.specs.declared.keyword.Keyword.TheVariants as the
 use Rattle.frame_values.specs.declared.values.Value.{Value}
-use Rattle.descriptor_frame.specs.Tables.{descriptor_tables}
-use Rattle.descriptor_frame.specs.declared.said.DescriptorValue.{DescriptorValue}
-use Rattle.descriptor_doc.specs.Descriptors.{descriptor_in}
-use Rattle.descriptor_doc.specs.Heads.{kept_of, kept_with, none_kept}
+use Rattle.descriptor_frame.specs.{Tables.descriptor_tables, declared.said.DescriptorValue.DescriptorValue}
+use Rattle.descriptor_doc.specs.{Descriptors.descriptor_in, Heads.{kept_of, kept_with, none_kept}}
 use Rattle.descriptor_doc.specs.Reading.{descriptor_of, front_of, max_descriptor, with_descriptor}
 use Rattle.descriptor_doc.specs.declared.descriptor.Descriptor.{Descriptor}
 use Rattle.descriptor_parts.proofs.OneSection.{IsOneSection, one_section_is_all}

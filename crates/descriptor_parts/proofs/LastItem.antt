@@ -1,29 +1,20 @@
 -- The first and the last item of a descriptor's section.
-use Rattle.std.proofs.Common.{◌≡◌, ℕ, Bool, true, false, List, [], ◌∷◌, ◌++◌, Option, Some, None, Ok, refl}
-use Rattle.std.proofs.Common.{sym, ap, ◌∙◌, inl, inr}
-use Rattle.std.specs.Prelude.{codes, is_some, if◌then◌else◌}
+use Rattle.std.proofs.Common.{◌≡◌, ℕ, Bool, true, false, List, [], ◌∷◌, ◌++◌, Option, Some, None, Ok, refl, sym, ap}
+use Rattle.std.{proofs.Common.{◌∙◌, inl, inr}, specs.Prelude.{codes, is_some, if◌then◌else◌}}
 use Rattle.item_terms.specs.Items.{Item, Object}
-use Rattle.frame_terms.specs.Keywords.{same}
-use Rattle.frame_terms.specs.Rows.{row}
-use Rattle.frame_terms.specs.Sections.{row_of}
-use Rattle.frame_terms.specs.declared.keyword.Keyword.{Keyword}
+use Rattle.frame_terms.specs.{Keywords.same, Rows.row, Sections.row_of, declared.keyword.Keyword.Keyword}
+use Rattle.frame_terms.specs.declared.row.{Count.TheVariants.One, Row.Row}
 use Rattle.frame_terms.specs.declared.keyword.Keyword.TheVariants as the
-use Rattle.frame_terms.specs.declared.row.Count.TheVariants.{One}
-use Rattle.frame_terms.specs.declared.row.Row.{Row}
-use Rattle.frame_values.specs.Arguments.{next}
-use Rattle.frame_values.specs.Faults.{at_place}
-use Rattle.frame_values.specs.Signatures.{has_words, object_if}
-use Rattle.frame_values.specs.Values.{item_at}
+use Rattle.frame_values.specs.{Arguments.next, Faults.at_place, Signatures.{has_words, object_if}, Values.item_at}
 use Rattle.frame_values.specs.declared.values.Value.TheVariants as value
 use Rattle.frame_laws.proofs.KnownWords.{same-sym, same-through}
 use Rattle.document_laws.proofs.Openers.{row_of-one, row_of-same}
-use Rattle.descriptor_frame.specs.Lines.{value_at}
-use Rattle.descriptor_frame.specs.Tables.{descriptor_tables, rows}
+use Rattle.descriptor_frame.specs.{Lines.value_at, Tables.{descriptor_tables, rows}}
 use Rattle.descriptor_frame.specs.declared.said.DescriptorKind.{DescriptorKind}
 use Rattle.descriptor_frame.specs.declared.said.DescriptorKind.TheVariants as kind
 use Rattle.grammar_laws.specs.Parts.{EndWithObjects}
-use Rattle.descriptor_parts.proofs.OneSection.{AreInside}
-use Rattle.descriptor_parts.proofs.DescriptorDocument.{AreItems, DescriptorTaken, Said, last_keyword}
+use Rattle.descriptor_parts.proofs.{OneSection.AreInside, DescriptorDocument.{AreItems, DescriptorTaken, Said}}
+use Rattle.descriptor_parts.proofs.DescriptorDocument.{last_keyword}
 
 -- ---- descriptors end with their last item's object
 

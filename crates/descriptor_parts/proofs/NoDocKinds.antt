@@ -3,8 +3,7 @@ use Rattle.std.proofs.Common.{ℕ, Result, Ok, Err}
 use Rattle.frame_terms.specs.declared.fault.FrameFault.{FrameFault}
 use Rattle.frame_values.specs.declared.values.Value.{Value}
 use Rattle.frame_values.specs.declared.values.Value.TheVariants as value
-use Rattle.relay_entries.specs.declared.listed.Listed.{Listed}
-use Rattle.relay_entries.specs.Listing.{note_entry}
+use Rattle.relay_entries.specs.{declared.listed.Listed.Listed, Listing.note_entry}
 use Rattle.consensus_frame.specs.declared.across.Across as consensus_across
 use Rattle.consensus_frame.specs.declared.value.ConsensusValue.{ConsensusValue}
 use Rattle.consensus_frame.specs.declared.value.ConsensusValue.TheVariants as listed

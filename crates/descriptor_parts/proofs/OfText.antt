@@ -1,27 +1,19 @@
 -- A descriptor is what its own text says.
-use Rattle.std.proofs.Common.{◌≡◌, ℕ, ◌+◌, ◌-◌, ◌≤◌, ◌<◌, List, [], ◌∷◌, ◌++◌, length, take, Result, Ok, sym, ap}
-use Rattle.std.proofs.Common.{subst, ◌∙◌, arith}
-use Rattle.std.proofs.lemmas.List.{length-take-le, take_all}
-use Rattle.std.specs.Prelude.{slice_range}
+use Rattle.std.proofs.Common.{◌≡◌, ℕ, ◌+◌, ◌-◌, ◌≤◌, ◌<◌, List, [], ◌∷◌, ◌++◌, length, take, Result, Ok, sym, ap, subst}
+use Rattle.std.{proofs.{Common.{◌∙◌, arith}, lemmas.List.{length-take-le, take_all}}, specs.Prelude.slice_range}
 use Rattle.item_terms.specs.Items.{Item, items_of}
-use Rattle.dirdoc_grammar.specs.InPlace.{EachInPlace}
-use Rattle.dirdoc_grammar.proofs.Places.{stand_in_place}
-use Rattle.frame_terms.specs.Documents.{document_of}
-use Rattle.frame_terms.specs.declared.fault.ReadRefusal.{ReadRefusal}
+use Rattle.dirdoc_grammar.{specs.InPlace.EachInPlace, proofs.Places.stand_in_place}
+use Rattle.frame_terms.specs.{Documents.document_of, declared.fault.ReadRefusal.ReadRefusal}
 use Rattle.frame_terms.specs.declared.keyword.Keyword.TheVariants as the
 use Rattle.frame_values.specs.Values.{after_in, item_at, place_in}
 use Rattle.descriptor_frame.specs.Tables.{descriptor_tables}
-use Rattle.descriptor_doc.specs.Descriptors.{descriptor_in}
-use Rattle.descriptor_doc.specs.Heads.{kept_of}
-use Rattle.descriptor_doc.specs.Reading.{descriptor_behind, descriptor_of, front_of, max_descriptor}
-use Rattle.descriptor_doc.specs.declared.descriptor.Descriptor.{Descriptor}
+use Rattle.descriptor_doc.specs.{Descriptors.descriptor_in, Heads.kept_of, Reading.{descriptor_behind, descriptor_of}}
+use Rattle.descriptor_doc.specs.{Reading.{front_of, max_descriptor}, declared.descriptor.Descriptor.Descriptor}
 use Rattle.descriptor_doc.proofs.Fronts.{front_within}
-use Rattle.descriptor_parts.specs.Texts.{DescriptorsAreOfTheirText, IsOfText}
-use Rattle.descriptor_parts.proofs.DescriptorDocument.{AreItems, DescriptorTaken, IsReadOf, is_read, limit_of}
-use Rattle.descriptor_parts.proofs.DescriptorDocument.{of_section, rest_of, says_of}
-use Rattle.descriptor_parts.proofs.LastItem.{first_found, last_found}
-use Rattle.descriptor_parts.proofs.OwnFront.{first_place, no_front}
-use Rattle.descriptor_parts.proofs.OwnText.{ends_within, own_text}
+use Rattle.descriptor_parts.{specs.Texts.{DescriptorsAreOfTheirText, IsOfText}, proofs.DescriptorDocument.AreItems}
+use Rattle.descriptor_parts.proofs.DescriptorDocument.{DescriptorTaken, IsReadOf, is_read, limit_of, of_section}
+use Rattle.descriptor_parts.proofs.{DescriptorDocument.{rest_of, says_of}, LastItem.{first_found, last_found}}
+use Rattle.descriptor_parts.proofs.{OwnFront.{first_place, no_front}, OwnText.{ends_within, own_text}}
 
 -- what is read of a text, whole, whose first item stands at its first byte, has that text
 whole_text : (text : List ℕ) (taken : List DescriptorTaken)

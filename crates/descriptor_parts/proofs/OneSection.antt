@@ -1,27 +1,17 @@
 -- A descriptor's document is the items of one section, up to its last.
-use Rattle.std.proofs.Common.{◌≡◌, ℕ, true, false, List, [], ◌∷◌, ◌++◌, Ok, refl, sym, ap, ◌∙◌, inl, inr}
-use Rattle.std.proofs.Common.{append-nil, append_assoc}
-use Rattle.std.specs.Prelude.{◌⊎◌, map, replicate}
-use Rattle.std.proofs.lemmas.Option.{none-some}
+use Rattle.std.proofs.Common.{◌≡◌, ℕ, true, false, List, [], ◌∷◌, ◌++◌, Ok, refl, sym, ap, ◌∙◌, inl, inr, append-nil}
+use Rattle.std.{proofs.{Common.append_assoc, lemmas.Option.none-some}, specs.Prelude.{◌⊎◌, map, replicate}}
 use Rattle.item_terms.specs.Items.{Contents, Item}
-use Rattle.frame_terms.specs.declared.document.Group.{Group}
-use Rattle.frame_terms.specs.declared.document.Taken.{Taken}
+use Rattle.frame_terms.specs.{declared.document.{Group.Group, Taken.Taken}, Documents.{Document, document_of, group}}
+use Rattle.frame_terms.specs.{Keywords.same, Order.opener}
 use Rattle.frame_terms.specs.declared.keyword.Keyword.TheVariants as the
-use Rattle.frame_terms.specs.Documents.{Document, document_of, group}
-use Rattle.frame_terms.specs.Keywords.{same}
-use Rattle.frame_terms.specs.Order.{opener}
 use Rattle.frame_values.specs.declared.values.Value.{Value}
-use Rattle.document_laws.specs.Counts.{RowsStand}
-use Rattle.document_laws.specs.Items.{IsItemOf}
+use Rattle.document_laws.specs.{Counts.RowsStand, Items.IsItemOf, Order.{AreInOrder, Part, sections_of}}
+use Rattle.document_laws.specs.{Passing.{EndsWith, IsPassedIn}, Documents.{AreParts, EndsSo}, Parts.AreBetween}
+use Rattle.document_laws.specs.Parts.{AreOthers, IsPart}
 use Rattle.document_laws.specs.Order as order
-use Rattle.document_laws.specs.Order.{AreInOrder, Part, sections_of}
-use Rattle.document_laws.specs.Passing.{EndsWith, IsPassedIn}
-use Rattle.descriptor_frame.specs.Tables.{descriptor_tables}
-use Rattle.document_laws.specs.Documents.{AreParts, EndsSo}
-use Rattle.document_laws.specs.Parts.{AreBetween, AreOthers, IsPart}
-use Rattle.document_laws.proofs.Beginning.{opener_regarded}
-use Rattle.descriptor_parts.proofs.ClearKinds.{kinds_are_clear, kinds_are_exact}
-use Rattle.descriptor_frame.specs.declared.said.DescriptorValue.{DescriptorValue}
+use Rattle.descriptor_frame.specs.{Tables.descriptor_tables, declared.said.DescriptorValue.DescriptorValue}
+use Rattle.descriptor_parts.proofs.ClearKinds.{kinds_are_exact}
 
 abbrev V : Type 0
 V = Value DescriptorValue
@@ -175,68 +165,3 @@ pub one_section_is_all : (length_ : ℕ) (contents : Contents) (document : D)
 one_section_is_all length_ contents document read =
     let is = (kinds_are_exact.descriptors length_ contents document).0 read in
     by_parts contents.items document length_ contents is.parts is.left is.come is.are is.in_order is.each is.ends
-
--- ---- such items are read as the document
-
-from_inside : (across : X) (items : List Item) (taken : List (Taken V)) (next : X)
-    → AreInside across items taken next → AreBetween descriptor_tables tt across items taken next
-from_inside across [] taken next is = is
-from_inside across (item ∷ items) taken next (inl (passed, is)) = inl (passed, from_inside across items taken next is)
-from_inside across (item ∷ items) taken next (inr (one, rest, then_, are, regarded, other, is)) =
-    inr (
-      one,
-      rest,
-      then_,
-      are,
-      record {
-        stands = record { said = regarded.said; regarded = regarded.regarded; note = regarded.note };
-        goes_on = other;
-        begins_none = refl;
-      },
-      from_inside then_ items rest next is,
-    )
-
-module _ (items : List Item) (taken : List (Taken V)) (used : ℕ) (is : IsOneSection items taken used) where
-  -- its items, up to its last
-  abbrev own : List Item
-  own = is.first_item ∷ (is.items_between ++ is.last_item ∷ [])
-
-  abbrev part : P
-  part = record { items = own; inside = []; whole = group tt taken }
-
-  is_part : IsPart descriptor_tables descriptor_tables.start part is.with_last
-  is_part = record {
-    first_item = is.first_item;
-    items_between = is.items_between;
-    items_last = is.last_item ∷ [];
-    come = refl;
-    first_one = is.first_one;
-    between = is.between;
-    last = is.last_one ∷ [];
-    are = is.are;
-    with_first = is.with_first;
-    before_last = is.before_last;
-    begins = record {
-      said = is.opens;
-      regarded = opener_regarded descriptor_tables kinds_are_clear.descriptors descriptor_tables.start tt is.first_item
-          is.first_one is.opens is.opener_first;
-      note = is.opens_note;
-    };
-    opens = is.opener_first;
-    others = inl (refl, from_inside is.with_first is.items_between is.between is.before_last is.inside);
-    ends = (
-      is.last_item,
-      is.last_one,
-      refl,
-      refl,
-      record { said = is.ends.said; regarded = is.ends.regarded; note = is.ends.note },
-      is.last_last,
-    );
-    counts = is.counts;
-  }
-
-  come : items ≡ (own ++ []) ++ is.left
-  come =
-      is.come
-      ∙ ap (λ (l : List Item). is.first_item ∷ l) (sym (append_assoc is.items_between (is.last_item ∷ []) is.left))
-      ∙ ap (λ (l : List Item). l ++ is.left) (sym (append-nil own))

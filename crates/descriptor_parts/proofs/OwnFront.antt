@@ -1,19 +1,14 @@
 -- No blank lines stand before the text of a descriptor.
 use Rattle.std.proofs.Common.{◌≡◌, ℕ, ◌+◌, ◌-◌, ◌≤◌, Bool, true, false, List, [], ◌∷◌, ◌++◌, length, take, drop, Option}
 use Rattle.std.proofs.Common.{Some, None, refl, sym, ap, subst, ◌∙◌, arith, append-nil, append_assoc, take-take}
-use Rattle.std.proofs.lemmas.List.{drop-take, take-append-drop, take_all}
-use Rattle.std.specs.Prelude.{◌&&◌, unwrap_or, if◌then◌else◌}
-use Rattle.item_terms.specs.Items.{Item, items_of}
-use Rattle.item_terms.specs.Lines.{Line, lines, size}
-use Rattle.item_terms.specs.Words.{is_blank_line}
+use Rattle.std.{proofs.lemmas.List.{drop-take, take-append-drop, take_all}, specs.Prelude.{◌&&◌, unwrap_or}}
+use Rattle.std.specs.Prelude.{if◌then◌else◌}
+use Rattle.item_terms.specs.{Items.{Item, items_of}, Lines.{Line, lines, size}, Words.is_blank_line}
 use Rattle.grammar_laws.specs.Blocks.{AreBlankLines, AreLinesOfItem, AreLinesOfItems, sizes}
-use Rattle.grammar_laws.proofs.BlockFronts.{items_are_there}
-use Rattle.grammar_laws.proofs.BlockLines.{keyword_not_blank}
-use Rattle.grammar_laws.proofs.LinesTogether.{AllEnded, lines_both}
-use Rattle.grammar_laws.proofs.SoundLines.{has_end}
+use Rattle.grammar_laws.proofs.{BlockFronts.items_are_there, BlockLines.keyword_not_blank, LinesTogether.AllEnded}
+use Rattle.grammar_laws.proofs.{LinesTogether.lines_both, SoundLines.has_end}
 use Rattle.blank_lines.specs.Blanks.{after_blanks, first_other, is_blank}
-use Rattle.descriptor_doc.specs.Reading.{front_of, max_descriptor}
-use Rattle.descriptor_doc.proofs.Fronts.{is_first}
+use Rattle.descriptor_doc.{specs.Reading.{front_of, max_descriptor}, proofs.Fronts.is_first}
 
 -- ---- the first line that is not blank is that of the first item
 

@@ -1,18 +1,11 @@
 -- The text of a descriptor alone: its lines, its items and the document that they are.
-use Rattle.std.proofs.Common.{◌≡◌, ℕ, ◌+◌, ◌≤◌, List, [], ◌∷◌, ◌++◌, length, take, Option, Some, None, Ok, refl, sym, ap}
-use Rattle.std.proofs.Common.{subst, ◌∙◌, arith}
-use Rattle.std.proofs.lemmas.List.{length-take-le}
-use Rattle.std.specs.Prelude.{map, option_map}
-use Rattle.item_terms.specs.Items.{Contents, Item, Object, items_of, nothing}
-use Rattle.item_terms.specs.Lines.{Line, lines}
+use Rattle.std.proofs.Common.{◌≡◌, ℕ, ◌+◌, ◌≤◌, List, [], ◌∷◌, ◌++◌, length, take, Option, Some, None, Ok, refl, sym}
+use Rattle.std.{proofs.{Common.{ap, subst, ◌∙◌, arith}, lemmas.List.length-take-le}, specs.Prelude.{map, option_map}}
+use Rattle.item_terms.specs.{Items.{Contents, Item, Object, items_of, nothing}, Lines.{Line, lines}}
 use Rattle.frame_terms.specs.Documents.{document_of}
-use Rattle.grammar_laws.specs.Moved.{Reads, moved_item, moved_object, sizes}
-use Rattle.grammar_laws.proofs.LastLines.{cut_lines}
-use Rattle.grammar_laws.proofs.LinesTogether.{AllEnded, sizes_all}
-use Rattle.grammar_laws.proofs.MovedLines.{reads_moved}
-use Rattle.grammar_laws.proofs.OwnLines.{hold, lines_cut}
-use Rattle.grammar_laws.proofs.OwnPart.{own_part_same, within_text}
-use Rattle.grammar_laws.proofs.SoundLines.{ends_all, within_all}
+use Rattle.grammar_laws.{specs.Moved.{Reads, moved_item, moved_object, sizes}, proofs.LastLines.cut_lines}
+use Rattle.grammar_laws.proofs.{LinesTogether.{AllEnded, sizes_all}, MovedLines.reads_moved, OwnLines.{hold, lines_cut}}
+use Rattle.grammar_laws.proofs.{OwnPart.{own_part_same, within_text}, SoundLines.{ends_all, within_all}}
 use Rattle.descriptor_frame.specs.Tables.{descriptor_tables}
 use Rattle.descriptor_doc.specs.Reading.{max_descriptor}
 use Rattle.descriptor_parts.proofs.DescriptorDocument.{AreItems, DescriptorTaken, are_items, of_section}

@@ -4,9 +4,7 @@ use Rattle.consensus_terms.specs.declared.flavour.Flavour.{Flavour}
 use Rattle.descriptor_frame.specs.Tables.{descriptor_tables}
 use Rattle.detached_frame.specs.Tables.{detached_tables}
 use Rattle.micro_desc.specs.Tables.{micro_tables}
-use Rattle.document_laws.specs.Clear.{AreClear}
-use Rattle.document_laws.specs.Documents.{AreExact}
-use Rattle.document_laws.specs.Known.{HasNoDoc}
+use Rattle.document_laws.specs.{Clear.AreClear, Documents.AreExact, Known.HasNoDoc}
 
 -- The tables of each kind are clear.
 pub record KindsAreClear : Type 0 where

@@ -1,7 +1,6 @@
 -- A descriptor and its own text (dir-spec, "Server descriptor format").
 use Rattle.std.specs.Prelude.{◌≡◌, ℕ, List, length, Ok}
-use Rattle.descriptor_doc.specs.Reading.{descriptor_of}
-use Rattle.descriptor_doc.specs.declared.descriptor.Descriptor.{Descriptor}
+use Rattle.descriptor_doc.specs.{Reading.descriptor_of, declared.descriptor.Descriptor.Descriptor}
 
 -- The descriptor is the one that its own text is read as, whole: each of its facts, its identity, its digest and its
 -- text are those of that text.

@@ -1,13 +1,8 @@
 -- What is left to write of a line or of items, one by one.
 use Rattle.std.proofs.Common.{◌≡◌, ℕ, suc, ◌+◌, ◌-◌, ◌*◌, ◌<◌, ◌≤◌, List, [], ◌∷◌, ◌++◌, take, drop, map, ap, ◌∙◌, refl}
-use Rattle.std.proofs.Common.{arith}
-use Rattle.std.proofs.lemmas.Grind.{common_steps}
-use Rattle.std.proofs.lemmas.List.{drop-drop}
-use Rattle.std.specs.Prelude.{slice_range}
+use Rattle.std.{proofs.{Common.arith, lemmas.{Grind.common_steps, List.drop-drop}}, specs.Prelude.slice_range}
 use Rattle.dir_bytes.specs.FieldTexts.{hex_text}
-use Rattle.dir_values.specs.FlagSets.{set_text}
-use Rattle.dir_values.specs.Lending.{after_text}
-use Rattle.dir_values.specs.declared.digest.Fingerprint.{Fingerprint}
+use Rattle.dir_values.specs.{FlagSets.set_text, Lending.after_text, declared.digest.Fingerprint.Fingerprint}
 use Rattle.dir_values.proofs.SetTexts.{set_text-cons}
 use Rattle.descriptor_text.specs.Lines.{groups_from, groups_text}
 

@@ -7,8 +7,7 @@ use Rattle.dir_bytes.specs.FieldTexts.{address_text, base64_text, hex_text}
 use Rattle.dir_values.specs.declared.digest.Fingerprint.{Fingerprint}
 pub use Rattle.descriptor_frame.specs.Families.{family_text}
 use Rattle.descriptor_frame.specs.declared.said.BandwidthLine.{BandwidthLine}
-use Rattle.descriptor_doc.specs.declared.descriptor.EdSignature.{EdSignature}
-use Rattle.descriptor_doc.specs.declared.descriptor.Router.{Router}
+use Rattle.descriptor_doc.specs.declared.descriptor.{EdSignature.EdSignature, Router.Router}
 
 -- its three ports: ORPort, SOCKSPort, DirPort
 abbrev pub ports_text : Router → List ℕ

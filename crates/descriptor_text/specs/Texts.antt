@@ -1,11 +1,10 @@
 -- The canonical text of a server descriptor: its items in the order of the table, with single spaces (dir-spec, "Server
 -- descriptor format"). What is computed from a text that was read is not written: `identity`, `digest`, `text`, and what an
 -- Ed25519 signature is made over.
-use Rattle.std.specs.Prelude.{ℕ, Bool, List, [], ◌∷◌, ◌++◌, map, codes, decimal, if◌then◌else◌}
-use Rattle.std.specs.Prelude.{Option, Some, None, option_map}
+use Rattle.std.specs.Prelude.{ℕ, Bool, List, [], ◌∷◌, ◌++◌, map, codes, decimal, if◌then◌else◌, Option, Some, None}
+use Rattle.std.specs.Prelude.{option_map}
 use Rattle.dir_bytes.specs.FieldTexts.{base64_text}
-use Rattle.dir_values.specs.Ports.{summary_text}
-use Rattle.dir_values.specs.declared.policy.PolicyItem.{PolicyItem}
+use Rattle.dir_values.specs.{Ports.summary_text, declared.policy.PolicyItem.PolicyItem}
 use Rattle.dirdoc_grammar.specs.Writing.{NewItem, items_text}
 use Rattle.descriptor_frame.specs.declared.certificate.EdCert.{EdCert}
 use Rattle.frame_terms.specs.declared.keyword.Keyword.{Keyword}
@@ -13,8 +12,8 @@ use Rattle.frame_terms.specs.declared.keyword.Keyword.TheVariants as the
 use Rattle.frame_values.specs.Items.{bare, with_object, item_if, moment_item}
 use Rattle.exit_summary.specs.Texts.{item_text}
 use Rattle.descriptor_doc.specs.declared.descriptor.Descriptor.{Descriptor}
-use Rattle.descriptor_text.specs.Lines.{bandwidth_text, ed_signature_text, family_text, groups_text}
-use Rattle.descriptor_text.specs.Lines.{hibernating_text, router_text}
+use Rattle.descriptor_text.specs.Lines.{bandwidth_text, ed_signature_text, family_text, groups_text, hibernating_text}
+use Rattle.descriptor_text.specs.Lines.{router_text}
 
 -- an item with an object of these words, where there are bytes of it
 abbrev pub object_if : Keyword → List ℕ → Option (List ℕ) → List NewItem

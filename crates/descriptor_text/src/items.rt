@@ -1,11 +1,10 @@
 // Writing the items of a server descriptor that may be left out or stand several times. Each line is put together in one
 // vector, `rest`, which is used again and again.
-ghost use Rattle.std.specs.Prelude.{◌≡◌, ◌++◌, IfOk, OnOk, OnErr, codes, map, option_map, take, vec_len};
+ghost use Rattle.std.specs.{Prelude.{◌≡◌, ◌++◌, IfOk, OnOk, OnErr, codes, map, option_map, take, vec_len}, Fmt.decimal};
 ghost use Rattle.dir_bytes.specs.FieldTexts.{base64_text};
 ghost use Rattle.dir_values.specs.Ports.{summary_text};
 ghost use Rattle.dirdoc_grammar.specs.Writing.{items_text};
 ghost use Rattle.frame_values.specs.Items as items;
-ghost use Rattle.std.specs.Fmt.{decimal};
 ghost use Rattle.descriptor_text.specs.Lines as lines;
 ghost use Rattle.descriptor_text.specs.Texts as texts;
 

@@ -1,12 +1,9 @@
 -- A turn of the loop that puts the lines of an object on a page, and its end.
 use Rattle.std.proofs.Common.{◌≡◌, ℕ, ◌<◌, true, false, Option, List, [], ◌∷◌, ◌++◌, length, take, drop, sym, ap, ◌∙◌}
-use Rattle.std.proofs.Common.{append_assoc, arith}
-use Rattle.std.specs.Prelude.{◌==◌, min}
-use Rattle.std.proofs.lemmas.Bool.{eqb-true, eqb-false}
+use Rattle.std.{proofs.{Common.{append_assoc, arith}, lemmas.Bool.{eqb-true, eqb-false}}, specs.Prelude.{◌==◌, min}}
 use Rattle.dirdoc_grammar.specs.Bodies.{base64_of, begin_line, body_text, end_line, object_text}
 use Rattle.dirdoc_grammar.proofs.BodyLines.{body_text_more, body_text-nil}
-use Rattle.text_page.specs.Pages.{Sheet, with_text}
-use Rattle.text_page.proofs.Pages.{also, with_text-joined, with_text-nothing}
+use Rattle.text_page.{specs.Pages.{Sheet, with_text}, proofs.Pages.{also, with_text-joined, with_text-nothing}}
 
 pub one_turn : (bytes line others : List ℕ) (out new whole : Option Sheet) (n : ℕ) → (length bytes == 0) ≡ false
     → n ≡ min (length bytes) 48 → line ≡ take n bytes → others ≡ drop n bytes

@@ -1,14 +1,10 @@
 -- What was kept of a document is the detached signatures that it is.
 use Rattle.std.proofs.Common.{◌≡◌, ℕ, List, length, Ok, Result, sym, ap, ◌∙◌}
 use Rattle.item_terms.specs.Items.{Contents, items_of}
-use Rattle.frame_terms.specs.declared.fault.ReadRefusal.{ReadRefusal}
-use Rattle.frame_terms.specs.Documents.{document_of, finish}
+use Rattle.frame_terms.specs.{declared.fault.ReadRefusal.ReadRefusal, Documents.{document_of, finish}}
 use Rattle.detached_frame.specs.Tables.{detached_tables}
-use Rattle.detached_doc.specs.declared.detached.Detached.{Detached}
-use Rattle.detached_doc.specs.declared.kept.Kept.{Kept}
-use Rattle.detached_doc.specs.Facts.{detached_in}
-use Rattle.detached_doc.specs.Kept.{kept_with, none_kept}
-use Rattle.detached_doc.specs.Reading.{detached_of, max_detached, with_detached}
+use Rattle.detached_doc.specs.{declared.{detached.Detached.Detached, kept.Kept.Kept}, Facts.detached_in, Kept.kept_with}
+use Rattle.detached_doc.specs.{Kept.none_kept, Reading.{detached_of, max_detached, with_detached}}
 
 abbrev kept_of : Kept → Contents → List ℕ → Result (Kept × ℕ) ReadRefusal
 kept_of before items bytes = finish kept_with before (document_of detached_tables (length bytes) items)

@@ -1,15 +1,9 @@
 -- A stable sort by identity puts signatures in their order.
-use Rattle.std.proofs.Common.{◌≡◌, List, [], ◌∷◌, refl, sym, ap, ◌∙◌}
-use Rattle.std.specs.Prelude.{if◌then◌else◌}
-use Rattle.std.specs.Cmp.{IsStrictWeakOrder}
-use Rattle.std.specs.List.{fold}
+use Rattle.std.proofs.{Common.{◌≡◌, List, [], ◌∷◌, refl, sym, ap, ◌∙◌}, lemmas.Cmp.nat_list_cmp_total}
+use Rattle.std.{proofs.lemmas.List.MinMax.ranks_by, specs.{Prelude.if◌then◌else◌, Cmp.IsStrictWeakOrder, List.fold}}
 use Rattle.std.specs.List.Sorted.{IsSortedBy, IsStableBy}
-use Rattle.std.proofs.lemmas.Cmp.{nat_list_cmp_total}
-use Rattle.std.proofs.lemmas.List.MinMax.{ranks_by}
-use Rattle.consensus_text.proofs.Signatures.{less_is_lt}
-use Rattle.consensus_text.proofs.StableOrder.{inserted, sorted-inserted}
-use Rattle.detached_doc.specs.declared.detached.DetachedLine.{DetachedLine}
-use Rattle.detached_doc.specs.Order.{in_order, stands_before, with_line}
+use Rattle.consensus_text.proofs.{Signatures.less_is_lt, StableOrder.{inserted, sorted-inserted}}
+use Rattle.detached_doc.specs.{declared.detached.DetachedLine.DetachedLine, Order.{in_order, stands_before, with_line}}
 
 -- identities are ordered
 pub identities_rank : IsStrictWeakOrder stands_before

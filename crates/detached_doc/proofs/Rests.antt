@@ -1,16 +1,10 @@
 -- The rest of a line that is not empty stands behind a space.
 use Rattle.std.proofs.Common.{◌≡◌, ℕ, ◌<◌, Bool, true, false, List, [], ◌∷◌, ◌++◌, length, refl, sym, ap, ◌∙◌, arith}
-use Rattle.std.proofs.Common.{Option, append_assoc}
-use Rattle.std.specs.Prelude.{codes, if◌then◌else◌}
-use Rattle.std.specs.Str.{bytes_eq}
-use Rattle.dir_bytes.specs.FieldTexts.{hex_text}
-use Rattle.dir_bytes.proofs.Spelling.{length-hex_text}
-use Rattle.dirdoc_grammar.specs.Bodies.{object_text}
-use Rattle.dirdoc_grammar.specs.Writing.{item_text, tail}
-use Rattle.consensus_terms.specs.Signed.{signature_item, signer_text}
-use Rattle.consensus_terms.specs.declared.signature.SignatureLine.{SignatureLine}
-use Rattle.text_page.specs.Pages.{Sheet, with_text}
-use Rattle.text_page.proofs.Pages.{also}
+use Rattle.std.{proofs.Common.{Option, append_assoc}, specs.{Prelude.{codes, if◌then◌else◌}, Str.bytes_eq}}
+use Rattle.dir_bytes.{specs.FieldTexts.hex_text, proofs.Spelling.length-hex_text}
+use Rattle.dirdoc_grammar.specs.{Bodies.object_text, Writing.{item_text, tail}}
+use Rattle.consensus_terms.specs.{Signed.{signature_item, signer_text}, declared.signature.SignatureLine.SignatureLine}
+use Rattle.text_page.{specs.Pages.{Sheet, with_text}, proofs.Pages.also}
 use Rattle.detached_doc.specs.Private.{named_part, signer_part}
 
 tail_some : (rest : List ℕ) → 0 < length rest → tail rest ≡ 32 ∷ rest

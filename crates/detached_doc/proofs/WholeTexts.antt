@@ -1,14 +1,11 @@
 -- The text of detached signatures is that of its parts, one after the other.
-use Rattle.std.proofs.Common.{◌≡◌, ℕ, List, [], ◌∷◌, ◌++◌, map, refl, ap, ◌∙◌}
-use Rattle.std.specs.List.{flat_map}
+use Rattle.std.{proofs.Common.{◌≡◌, ℕ, List, [], ◌∷◌, ◌++◌, map, refl, ap, ◌∙◌}, specs.List.flat_map}
 use Rattle.dirdoc_grammar.specs.Writing.{NewItem, item_text, items_text}
 use Rattle.frame_values.proofs.ItemsTexts.{sections}
-use Rattle.detached_doc.specs.declared.detached.AdditionalDigest.{AdditionalDigest}
-use Rattle.detached_doc.specs.declared.detached.Detached.{Detached}
-use Rattle.detached_doc.specs.declared.detached.DetachedLine.{DetachedLine}
-use Rattle.detached_doc.specs.Private.{additional_line_text, digest_text, head_text, parts, plain_line_text}
-use Rattle.detached_doc.specs.Texts.{additional_if, additional_items, digest_item, head_items, items_with, plain_if}
-use Rattle.detached_doc.specs.Texts.{plain_items}
+use Rattle.detached_doc.specs.declared.detached.{AdditionalDigest.AdditionalDigest, Detached.Detached}
+use Rattle.detached_doc.specs.{declared.detached.DetachedLine.DetachedLine, Private.{additional_line_text, digest_text}}
+use Rattle.detached_doc.specs.{Private.{head_text, parts, plain_line_text}, Texts.{additional_if, additional_items}}
+use Rattle.detached_doc.specs.Texts.{digest_item, head_items, items_with, plain_if, plain_items}
 
 of_each : {X : Type 0} (items : X → List NewItem) (xs : List X)
     → items_text (flat_map items xs) ≡ flat_map (λ (x : X). items_text (items x)) xs

@@ -3,15 +3,11 @@ use Rattle.std.specs.Prelude.{ℕ, List, [], map, unwrap_or, Some, None}
 use Rattle.dir_bytes.specs.HexBytes.{hex_bytes}
 use Rattle.consensus_terms.specs.declared.signature.SignatureLine.{SignatureLine}
 use Rattle.consensus_doc.specs.Drafts.{signature_of}
-use Rattle.frame_values.specs.Parts.{bytes_in, moment_of, part}
-use Rattle.frame_values.specs.declared.found.Span.{Span}
+use Rattle.frame_values.specs.{Parts.{bytes_in, moment_of, part}, declared.found.Span.Span}
 use Rattle.detached_frame.specs.declared.said.AdditionalDigestLine.{AdditionalDigestLine}
 use Rattle.detached_frame.specs.declared.said.AdditionalSignatureLine.{AdditionalSignatureLine}
-use Rattle.detached_doc.specs.declared.detached.AdditionalDigest.{AdditionalDigest}
-use Rattle.detached_doc.specs.declared.detached.Detached.{Detached}
-use Rattle.detached_doc.specs.declared.detached.DetachedLine.{DetachedLine}
-use Rattle.detached_doc.specs.declared.kept.Kept.{Kept}
-use Rattle.detached_doc.specs.declared.said.SignedLine.{SignedLine}
+use Rattle.detached_doc.specs.declared.detached.{AdditionalDigest.AdditionalDigest, Detached.Detached}
+use Rattle.detached_doc.specs.declared.{detached.DetachedLine.DetachedLine, kept.Kept.Kept, said.SignedLine.SignedLine}
 use Rattle.detached_doc.specs.declared.said.SignedLine.TheVariants.{Plain, Additional}
 
 -- the bytes that stand in a span in hex. Each digest that is read is hex, so that none is lost.

@@ -1,11 +1,9 @@
 -- The detached signatures of a consensus in both flavours (dir-spec, "Serving and fetching detached signatures").
 use Rattle.std.specs.Prelude.{List, [], ◌∷◌, ◌++◌, Some, None, codes, map}
-use Rattle.dir_values.specs.declared.digest.Digest1.{Digest1}
-use Rattle.dir_values.specs.declared.digest.Digest2.{Digest2}
+use Rattle.dir_values.specs.declared.digest.{Digest1.Digest1, Digest2.Digest2}
 use Rattle.consensus_terms.specs.declared.consensus.ConsensusFacts.{ConsensusFacts}
 use Rattle.consensus_terms.specs.declared.signature.SignatureLine.{SignatureLine}
-use Rattle.detached_doc.specs.declared.detached.AdditionalDigest.{AdditionalDigest}
-use Rattle.detached_doc.specs.declared.detached.Detached.{Detached}
+use Rattle.detached_doc.specs.declared.detached.{AdditionalDigest.AdditionalDigest, Detached.Detached}
 use Rattle.detached_doc.specs.declared.detached.DetachedLine.{DetachedLine}
 
 -- the digest of the microdesc flavour

@@ -1,13 +1,10 @@
 -- What is kept of detached signatures.
 use Rattle.std.specs.Prelude.{List, [], ◌++◌}
-use Rattle.frame_terms.specs.declared.document.Taken.{Taken}
-use Rattle.frame_terms.specs.declared.keyword.Keyword.TheVariants.{ConsensusDigest, FreshUntil, ValidAfter, ValidUntil}
-use Rattle.frame_values.specs.declared.values.Value.{Value}
-use Rattle.frame_values.specs.Values.{item_at, number_in}
+use Rattle.frame_terms.specs.declared.{document.Taken.Taken, keyword.Keyword.TheVariants.{ConsensusDigest, FreshUntil}}
+use Rattle.frame_terms.specs.declared.keyword.Keyword.TheVariants.{ValidAfter, ValidUntil}
+use Rattle.frame_values.specs.{declared.values.Value.Value, Values.{item_at, number_in}}
 use Rattle.detached_frame.specs.declared.said.DetachedValue.{DetachedValue}
-use Rattle.detached_doc.specs.declared.kept.Head.{Head}
-use Rattle.detached_doc.specs.declared.kept.Kept.{Kept}
-use Rattle.detached_doc.specs.Saying.{digest_in, digests_in, lines_in}
+use Rattle.detached_doc.specs.{declared.kept.{Head.Head, Kept.Kept}, Saying.{digest_in, digests_in, lines_in}}
 
 -- what the items say that stand once
 abbrev pub head_of : List (Taken (Value DetachedValue)) → Head

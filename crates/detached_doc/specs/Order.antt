@@ -1,6 +1,5 @@
 -- The order in which signatures are written: ascending by identity, those of one identity in their order.
-use Rattle.std.specs.Prelude.{Bool, List, [], ◌∷◌, if◌then◌else◌}
-use Rattle.std.specs.List.{fold}
+use Rattle.std.specs.{Prelude.{Bool, List, [], ◌∷◌, if◌then◌else◌}, List.fold}
 use Rattle.dir_values.specs.Digests.{identity_below}
 use Rattle.detached_doc.specs.declared.detached.DetachedLine.{DetachedLine}
 

@@ -1,17 +1,13 @@
 -- What the private functions of this crate say.
-use Rattle.std.specs.Prelude.{ℕ, List, [], ◌∷◌, ◌++◌, codes, if◌then◌else◌}
-use Rattle.std.specs.List.{flat_map}
-use Rattle.std.specs.Str.{bytes_eq}
+use Rattle.std.specs.{Prelude.{ℕ, List, [], ◌∷◌, ◌++◌, codes, if◌then◌else◌}, List.flat_map, Str.bytes_eq}
 use Rattle.item_terms.specs.Bytes.{line_feed, space}
 use Rattle.dir_bytes.specs.FieldTexts.{hex_text}
 use Rattle.dirdoc_grammar.specs.Writing.{item_text, items_text}
-use Rattle.frame_terms.specs.Keywords.{text_of}
-use Rattle.frame_terms.specs.declared.keyword.Keyword.{Keyword}
+use Rattle.frame_terms.specs.{Keywords.text_of, declared.keyword.Keyword.Keyword}
 use Rattle.consensus_terms.specs.declared.signature.SignatureLine.{SignatureLine}
-use Rattle.detached_doc.specs.declared.detached.AdditionalDigest.{AdditionalDigest}
-use Rattle.detached_doc.specs.declared.detached.Detached.{Detached}
-use Rattle.detached_doc.specs.declared.detached.DetachedLine.{DetachedLine}
-use Rattle.detached_doc.specs.Texts.{additional_if, digest_item, head_items, plain_if}
+use Rattle.detached_doc.specs.declared.detached.{AdditionalDigest.AdditionalDigest, Detached.Detached}
+use Rattle.detached_doc.specs.{declared.detached.DetachedLine.DetachedLine, Texts.{additional_if, digest_item}}
+use Rattle.detached_doc.specs.Texts.{head_items, plain_if}
 
 -- a keyword and two words, behind a space each
 abbrev pub two_words : Keyword → List ℕ → List ℕ → List ℕ

@@ -1,14 +1,10 @@
 -- The detached signatures that bytes are, or their first fault (dir-spec, "Serving and fetching detached signatures").
 use Rattle.std.specs.Prelude.{◌≡◌, ℕ, ◌≤◌, List, length, Result, Ok, Err}
 use Rattle.item_terms.specs.Items.{items_of}
-use Rattle.frame_terms.specs.declared.fault.ReadRefusal.{ReadRefusal}
-use Rattle.frame_terms.specs.Documents.{document_of, finish}
-use Rattle.frame_terms.specs.Refusals.{Fails}
+use Rattle.frame_terms.specs.{declared.fault.ReadRefusal.ReadRefusal, Documents.{document_of, finish}, Refusals.Fails}
 use Rattle.detached_frame.specs.Tables.{detached_tables}
-use Rattle.detached_doc.specs.declared.detached.Detached.{Detached}
-use Rattle.detached_doc.specs.declared.kept.Kept.{Kept}
-use Rattle.detached_doc.specs.Facts.{detached_in}
-use Rattle.detached_doc.specs.Kept.{kept_with, none_kept}
+use Rattle.detached_doc.specs.{declared.{detached.Detached.Detached, kept.Kept.Kept}, Facts.detached_in, Kept.kept_with}
+use Rattle.detached_doc.specs.Kept.{none_kept}
 
 -- how many bytes detached signatures may have
 abbrev pub max_detached : ℕ

@@ -1,18 +1,14 @@
 -- What items of detached signatures alone say. The tables see to it that each item is there which has to stand; where one
 -- is not, or says something else, its value is nothing.
-use Rattle.std.specs.Prelude.{List, Option, Some, None}
-use Rattle.std.specs.List.{filter_map}
+use Rattle.std.specs.{Prelude.{List, Option, Some, None}, List.filter_map}
 use Rattle.dir_values.specs.declared.digest.Digest1.{Digest1}
 use Rattle.frame_terms.specs.declared.document.Taken.{Taken}
-use Rattle.frame_values.specs.declared.values.Value.{Value}
+use Rattle.frame_values.specs.{declared.values.Value.Value, Values.{no_digest, own_in}}
 use Rattle.frame_values.specs.declared.values.Value.TheVariants as value
-use Rattle.frame_values.specs.Values.{no_digest, own_in}
-use Rattle.detached_frame.specs.declared.said.AdditionalDigestLine.{AdditionalDigestLine}
-use Rattle.detached_frame.specs.declared.said.DetachedValue.{DetachedValue}
-use Rattle.detached_frame.specs.declared.said.DetachedValue.TheVariants.{Digest, AdditionalDigest}
-use Rattle.detached_frame.specs.declared.said.DetachedValue.TheVariants.{AdditionalSignature, Signature}
-use Rattle.detached_doc.specs.declared.said.SignedLine.{SignedLine}
-use Rattle.detached_doc.specs.declared.said.SignedLine.TheVariants.{Plain, Additional}
+use Rattle.detached_frame.specs.declared.said.{AdditionalDigestLine.AdditionalDigestLine, DetachedValue.DetachedValue}
+use Rattle.detached_frame.specs.declared.said.DetachedValue.TheVariants.{Digest, AdditionalDigest, AdditionalSignature}
+use Rattle.detached_frame.specs.declared.said.DetachedValue.TheVariants.{Signature}
+use Rattle.detached_doc.specs.declared.said.SignedLine.{SignedLine, TheVariants.{Plain, Additional}}
 
 -- the digest of a consensus that a value is
 abbrev pub digest_of_value : Option DetachedValue → Digest1

@@ -1,18 +1,14 @@
 -- The text of detached signatures: the digest, the times, the digests of other flavours, their signatures, and those of the
 -- ns flavour (dir-spec, "Serving and fetching detached signatures").
-use Rattle.std.specs.Prelude.{ℕ, List, [], ◌∷◌, ◌++◌, Option, Some, None, codes, map, if◌then◌else◌}
-use Rattle.std.specs.List.{flat_map}
+use Rattle.std.specs.{Prelude.{ℕ, List, [], ◌∷◌, ◌++◌, Option, Some, None, codes, map, if◌then◌else◌}, List.flat_map}
 use Rattle.item_terms.specs.Bytes.{space}
 use Rattle.dir_bytes.specs.FieldTexts.{hex_text}
 use Rattle.dirdoc_grammar.specs.Writing.{NewItem, items_text}
 use Rattle.frame_terms.specs.declared.keyword.Keyword.TheVariants as the
 use Rattle.frame_values.specs.Items.{bare, moment_item, with_object}
-use Rattle.consensus_terms.specs.Signed.{signature_item}
-use Rattle.consensus_terms.specs.declared.signature.SignatureLine.{SignatureLine}
-use Rattle.detached_doc.specs.declared.detached.AdditionalDigest.{AdditionalDigest}
-use Rattle.detached_doc.specs.declared.detached.Detached.{Detached}
-use Rattle.detached_doc.specs.declared.detached.DetachedLine.{DetachedLine}
-use Rattle.detached_doc.specs.Order.{in_order}
+use Rattle.consensus_terms.specs.{Signed.signature_item, declared.signature.SignatureLine.SignatureLine}
+use Rattle.detached_doc.specs.declared.detached.{AdditionalDigest.AdditionalDigest, Detached.Detached}
+use Rattle.detached_doc.specs.{declared.detached.DetachedLine.DetachedLine, Order.in_order}
 
 -- ---- the items
 

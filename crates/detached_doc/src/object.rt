@@ -1,7 +1,6 @@
 // Objects on a page.
 ghost use Rattle.std.specs.Prelude.{◌≡◌, ◌≤◌, ◌++◌, ◌∷◌, [], length, take};
-ghost use Rattle.item_terms.specs.Bytes.{line_feed};
-ghost use Rattle.item_terms.specs.Words.{dashes};
+ghost use Rattle.item_terms.specs.{Bytes.line_feed, Words.dashes};
 ghost use Rattle.dirdoc_grammar.specs.Bodies.{base64_of, body_text, object_text};
 ghost use Rattle.text_page.specs.Pages.{with_text};
 

@@ -1,6 +1,5 @@
 // Signatures in the order in which they are written.
-ghost use Rattle.std.specs.Prelude.{◌≡◌, IfOk};
-ghost use Rattle.std.specs.Ordering.{is_lt};
+ghost use Rattle.std.specs.{Prelude.{◌≡◌, IfOk}, Ordering.is_lt};
 ghost use Rattle.detached_doc.specs.Order as order;
 
 use crate::detached::DetachedLine;

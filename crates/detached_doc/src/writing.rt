@@ -1,6 +1,5 @@
 // Writing detached signatures.
-ghost use Rattle.std.specs.Prelude.{◌≡◌, IfOk};
-ghost use Rattle.std.specs.List.{flat_map};
+ghost use Rattle.std.specs.{Prelude.{◌≡◌, IfOk}, List.flat_map};
 ghost use Rattle.dir_bytes.specs.FieldTexts.{hex_text};
 ghost use Rattle.dirdoc_grammar.specs.Writing.{item_text};
 ghost use Rattle.consensus_terms.specs.Signed.{signature_item};

@@ -3,13 +3,9 @@
 use Rattle.std.specs.Prelude.{ℕ, true, is_some, Option, None, Result, Ok, if◌then◌else◌}
 use Rattle.item_terms.specs.Items.{Item}
 use Rattle.dir_bytes.specs.HexBytes.{hex_bytes}
-use Rattle.dir_values.specs.Arguments.{Argument}
-use Rattle.dir_values.specs.Digests.{fingerprint, key_digest}
-use Rattle.dir_values.specs.declared.digest.Digest1.{Digest1}
-use Rattle.frame_values.specs.declared.found.Span.{Span}
-use Rattle.frame_values.specs.Arguments.{arguments_of, front, others, field, next}
-use Rattle.frame_values.specs.Fields.{is_there, span_if}
-use Rattle.frame_values.specs.Signatures.{object_of}
+use Rattle.dir_values.specs.{Arguments.Argument, Digests.{fingerprint, key_digest}, declared.digest.Digest1.Digest1}
+use Rattle.frame_values.specs.{declared.found.Span.Span, Arguments.{arguments_of, front, others, field, next}}
+use Rattle.frame_values.specs.{Fields.{is_there, span_if}, Signatures.object_of}
 use Rattle.detached_frame.specs.declared.said.AdditionalDigestLine.{AdditionalDigestLine}
 use Rattle.detached_frame.specs.declared.said.AdditionalSignatureLine.{AdditionalSignatureLine}
 

@@ -2,23 +2,16 @@
 use Rattle.std.specs.Prelude.{ℕ, false, List, [], ◌∷◌, None, Result, Ok}
 use Rattle.item_terms.specs.Items.{Item}
 use Rattle.frame_terms.specs.declared.keyword.Keyword.TheVariants as the
-use Rattle.frame_terms.specs.declared.row.Count.TheVariants.{One, Many}
-use Rattle.frame_terms.specs.declared.row.Row.{Row}
-use Rattle.frame_terms.specs.declared.section.Again.TheVariants as again
-use Rattle.frame_terms.specs.declared.section.Shape.{Shape}
-use Rattle.frame_terms.specs.Rows.{row}
+use Rattle.frame_terms.specs.{declared.{row.{Count.TheVariants.{One, Many}, Row.Row}, section.Shape.Shape}, Rows.row}
 use Rattle.frame_terms.specs.Tables.{Tables}
-use Rattle.frame_values.specs.declared.values.Value.{Value}
-use Rattle.frame_values.specs.declared.values.Value.TheVariants as value
-use Rattle.frame_values.specs.Arguments.{next}
-use Rattle.frame_values.specs.Faults.{at_place}
-use Rattle.frame_values.specs.Lines.{time_of}
+use Rattle.frame_terms.specs.declared.section.Again.TheVariants as again
+use Rattle.frame_values.specs.{declared.values.Value.Value, Arguments.next, Faults.at_place, Lines.time_of}
 use Rattle.frame_values.specs.Signatures.{known_signature_of}
-use Rattle.detached_frame.specs.declared.said.DetachedKind.{DetachedKind}
-use Rattle.detached_frame.specs.declared.said.DetachedKind.TheVariants as kind
-use Rattle.detached_frame.specs.declared.said.DetachedValue.{DetachedValue}
-use Rattle.detached_frame.specs.declared.said.DetachedValue.TheVariants as own
+use Rattle.frame_values.specs.declared.values.Value.TheVariants as value
+use Rattle.detached_frame.specs.declared.said.{DetachedKind.DetachedKind, DetachedValue.DetachedValue}
 use Rattle.detached_frame.specs.Lines.{additional_digest_of, additional_signature_of, digest_of}
+use Rattle.detached_frame.specs.declared.said.DetachedKind.TheVariants as kind
+use Rattle.detached_frame.specs.declared.said.DetachedValue.TheVariants as own
 
 -- its items; the first one opens it
 abbrev pub rows : List (Row DetachedKind)

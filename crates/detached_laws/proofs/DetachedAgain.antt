@@ -1,45 +1,32 @@
 -- Detached signatures that were written are read again, by their fields.
-use Rattle.std.proofs.Common.{◌≡◌, ℕ, ◌≤◌, Bool, true, false, cond, List, [], ◌∷◌, ◌++◌, length, Option, Some, None}
-use Rattle.std.proofs.Common.{Ok, Result, refl, sym, ap, subst, ◌∙◌, append-nil, arith}
-use Rattle.std.specs.Prelude.{All, map, not, ◌&&◌, is_some, if◌then◌else◌}
-use Rattle.std.specs.List.{cons_option, filter, filter_map}
+use Rattle.std.proofs.Common.{◌≡◌, ℕ, ◌≤◌, Bool, true, false, cond, List, [], ◌∷◌, ◌++◌, length, Option, Some, None, Ok}
+use Rattle.std.proofs.{Common.{Result, refl, sym, ap, subst, ◌∙◌, append-nil, arith}, lemmas.List.Elements.All-cons}
+use Rattle.std.{proofs.lemmas.List.Elements.{All-head, All-nil, All-tail, filter_map-append}, specs.Prelude.{All, map}}
+use Rattle.std.specs.{Prelude.{not, ◌&&◌, is_some, if◌then◌else◌}, List.{cons_option, filter, filter_map}}
 use Rattle.std.specs.Option.{option_map}
-use Rattle.std.proofs.lemmas.List.Elements.{All-cons, All-head, All-nil, All-tail, filter_map-append}
 use Rattle.dir_bytes.specs.Causes.{last_moment}
 use Rattle.dirdoc_grammar.specs.Writing.{AreWritable, NewItem, items_text}
-use Rattle.frame_terms.specs.Documents.{Document, finish}
-use Rattle.frame_terms.specs.Keywords.{same}
-use Rattle.frame_terms.specs.declared.fault.ReadRefusal.{ReadRefusal}
+use Rattle.frame_terms.specs.{Documents.{Document, finish}, Keywords.same, declared.fault.ReadRefusal.ReadRefusal}
 use Rattle.frame_terms.specs.declared.keyword.Keyword.{Keyword}
 use Rattle.frame_terms.specs.declared.keyword.Keyword.TheVariants as the
-use Rattle.frame_values.specs.Parts.{moment_of}
-use Rattle.frame_values.specs.declared.values.Value.{Value}
+use Rattle.frame_values.specs.{Parts.moment_of, declared.values.Value.Value}
 use Rattle.frame_laws.proofs.Both.{as_ok, both_hold}
 use Rattle.consensus_laws.specs.Again.{is_known}
-use Rattle.detached_frame.specs.Tables.{detached_tables}
-use Rattle.detached_frame.specs.declared.said.DetachedKind.{DetachedKind}
-use Rattle.detached_frame.specs.declared.said.DetachedKind.TheVariants as kind
+use Rattle.detached_frame.specs.{Tables.detached_tables, declared.said.DetachedKind.DetachedKind}
 use Rattle.detached_frame.specs.declared.said.DetachedValue.{DetachedValue}
-use Rattle.detached_doc.specs.Kept.{kept_with, none_kept}
-use Rattle.detached_doc.specs.Order.{in_order}
-use Rattle.detached_doc.specs.Reading.{max_detached, with_detached}
+use Rattle.detached_frame.specs.declared.said.DetachedKind.TheVariants as kind
+use Rattle.detached_doc.specs.{Kept.{kept_with, none_kept}, Order.in_order, Reading.{max_detached, with_detached}}
 use Rattle.detached_doc.specs.Texts.{additional_if, additional_items, detached_items, detached_text, digest_item}
-use Rattle.detached_doc.specs.Texts.{plain_if, plain_items}
-use Rattle.detached_doc.specs.declared.detached.AdditionalDigest.{AdditionalDigest}
-use Rattle.detached_doc.specs.declared.detached.Detached.{Detached}
-use Rattle.detached_doc.specs.declared.detached.DetachedLine.{DetachedLine}
-use Rattle.row_laws.proofs.Again.{IsReadAgain, document_again, document_items, document_rows}
-use Rattle.row_laws.proofs.Sayings.{AreSpoken}
+use Rattle.detached_doc.specs.{Texts.{plain_if, plain_items}, declared.detached.AdditionalDigest.AdditionalDigest}
+use Rattle.detached_doc.specs.declared.detached.{Detached.Detached, DetachedLine.DetachedLine}
+use Rattle.row_laws.proofs.{Again.{IsReadAgain, document_again, document_items, document_rows}, Sayings.AreSpoken}
 use Rattle.row_laws.proofs.Spoken.{Spoken, SpokenRow, field_rows, new_item, spoken, spoken_of}
 use Rattle.detached_laws.specs.Again.{DetachedAreReadAgain, DetachedInOrderAreTheSame, IsDigestInRange, IsInRange}
-use Rattle.detached_laws.specs.Again.{IsLineInRange, as_read, is_additional, is_plain}
-use Rattle.detached_laws.proofs.DetachedKinds.{laws}
+use Rattle.detached_laws.{specs.Again.{IsLineInRange, as_read, is_additional, is_plain}, proofs.DetachedKinds.laws}
 use Rattle.detached_laws.proofs.DetachedMeaning.{IsRead, MayWrite, Saying, as_said, digest, meaning, moment, other}
-use Rattle.detached_laws.proofs.DetachedMeaning.{over, signed, unknown, write}
-use Rattle.detached_laws.proofs.DetachedOrder.{each_in_order}
+use Rattle.detached_laws.proofs.{DetachedMeaning.{over, signed, unknown, write}, DetachedOrder.each_in_order}
 use Rattle.detached_laws.proofs.DetachedFields.{facts_of, fields, first_row, kept_same, line_if, lines_of, opens}
-use Rattle.detached_laws.proofs.DetachedFields.{other_if, others, others_of, over_if, signed_if_plain, signed_of}
-use Rattle.detached_laws.proofs.DetachedFields.{table}
+use Rattle.detached_laws.proofs.DetachedFields.{other_if, others, others_of, over_if, signed_if_plain, signed_of, table}
 
 -- ---- its items are those of its fields
 

@@ -1,35 +1,23 @@
 -- The fields of detached signatures as a table, and what is kept with places is what they say.
-use Rattle.std.proofs.Common.{◌≡◌, ℕ, List, [], ◌∷◌, Option, Some, None, refl}
-use Rattle.std.specs.Prelude.{map}
-use Rattle.std.specs.List.{filter_map}
+use Rattle.std.{proofs.Common.{◌≡◌, ℕ, List, [], ◌∷◌, Option, Some, None, refl}, specs.{Prelude.map, List.filter_map}}
 use Rattle.std.specs.Option.{option_map}
 use Rattle.dir_values.specs.declared.digest.Digest1.{Digest1}
-use Rattle.frame_terms.specs.Keywords.{same}
-use Rattle.frame_terms.specs.Rows.{row}
-use Rattle.frame_terms.specs.declared.document.Taken.{Taken}
+use Rattle.frame_terms.specs.{Keywords.same, Rows.row, declared.{document.Taken.Taken, row.Count.TheVariants.Many}}
+use Rattle.frame_terms.specs.declared.row.{Count.TheVariants.One, Row.Row}
 use Rattle.frame_terms.specs.declared.keyword.Keyword.TheVariants as the
-use Rattle.frame_terms.specs.declared.row.Count.TheVariants.{Many, One}
-use Rattle.frame_terms.specs.declared.row.Row.{Row}
-use Rattle.frame_values.specs.Parts.{moment_of}
-use Rattle.frame_values.specs.Values.{no_digest, number_in}
-use Rattle.frame_values.specs.declared.values.Value.{Value}
+use Rattle.frame_values.specs.{Parts.moment_of, Values.{no_digest, number_in}, declared.values.Value.Value}
 use Rattle.frame_values.specs.declared.values.Value.TheVariants as value
 use Rattle.consensus_terms.specs.declared.signature.SignatureLine.{SignatureLine}
-use Rattle.detached_frame.specs.Tables.{detached_tables}
-use Rattle.detached_frame.specs.declared.said.DetachedKind.{DetachedKind}
-use Rattle.detached_frame.specs.declared.said.DetachedKind.TheVariants as kind
+use Rattle.detached_frame.specs.{Tables.detached_tables, declared.said.DetachedKind.DetachedKind}
 use Rattle.detached_frame.specs.declared.said.DetachedValue.{DetachedValue}
+use Rattle.detached_frame.specs.declared.said.DetachedKind.TheVariants as kind
 use Rattle.detached_frame.specs.declared.said.DetachedValue.TheVariants as own
-use Rattle.detached_doc.specs.Facts.{detached_in, digest_in, line_in}
-use Rattle.detached_doc.specs.Kept.{kept_with, none_kept}
-use Rattle.detached_doc.specs.Order.{in_order}
-use Rattle.detached_doc.specs.Saying as saying
-use Rattle.detached_doc.specs.declared.detached.AdditionalDigest.{AdditionalDigest}
-use Rattle.detached_doc.specs.declared.detached.Detached.{Detached}
+use Rattle.detached_doc.specs.{Facts.{detached_in, digest_in, line_in}, Kept.{kept_with, none_kept}, Order.in_order}
+use Rattle.detached_doc.specs.declared.detached.{AdditionalDigest.AdditionalDigest, Detached.Detached}
 use Rattle.detached_doc.specs.declared.detached.DetachedLine.{DetachedLine}
-use Rattle.row_laws.proofs.Again.{IsOneSection}
-use Rattle.row_laws.proofs.Lookups.{collected, first_said, looked_up, say_if}
-use Rattle.row_laws.proofs.Spoken.{Field, Spoken, SpokenRow, field_rows, rows_at, spoken}
+use Rattle.detached_doc.specs.Saying as saying
+use Rattle.row_laws.proofs.{Again.IsOneSection, Lookups.{collected, first_said, looked_up, say_if}, Spoken.Field}
+use Rattle.row_laws.proofs.Spoken.{Spoken, SpokenRow, field_rows, rows_at, spoken}
 use Rattle.detached_laws.proofs.DetachedMeaning.{Saying, digest, moment, other, over, said, signed}
 
 -- ---- its fields

@@ -1,29 +1,17 @@
 -- The facts of each kind of item of detached signatures.
 use Rattle.std.proofs.Common.{◌≡◌, ℕ, Bool, true, false, List, Option, Some, None, refl, sym, ap, ◌∙◌}
-use Rattle.std.specs.Prelude.{IfSome, codes, if◌then◌else◌, ◌||◌}
-use Rattle.std.specs.Option.{option_map}
-use Rattle.std.specs.Str.{bytes_eq}
+use Rattle.std.specs.{Prelude.{IfSome, codes, if◌then◌else◌, ◌||◌}, Option.option_map, Str.bytes_eq}
 use Rattle.base64.specs.GeneralPurpose.{IsBytes}
 use Rattle.dir_bytes.specs.Fields as fields
-use Rattle.item_terms.specs.Items.{Item}
-use Rattle.item_terms.specs.Words.{words_of}
-use Rattle.dirdoc_grammar.specs.Bodies.{body_text}
-use Rattle.dirdoc_grammar.specs.Writers.{is_argument}
-use Rattle.dirdoc_grammar.specs.Writing.{IsLineRest, IsWritableObject}
-use Rattle.dir_values.proofs.Orders.{same_text}
-use Rattle.dir_values.specs.Digests.{fingerprint}
-use Rattle.dir_values.specs.Names.{algorithm}
-use Rattle.dir_values.specs.declared.algorithm.Algorithm.{Algorithm}
-use Rattle.dir_values.specs.declared.algorithm.Algorithm.TheVariants.{Sha1, Sha256}
-use Rattle.dir_values.specs.declared.digest.Digest1.{Digest1}
-use Rattle.dir_values.specs.declared.digest.Fingerprint.{Fingerprint}
-use Rattle.frame_values.specs.Ranges.{AreTwenty}
-use Rattle.frame_values.specs.declared.found.Span.{Span}
-use Rattle.frame_values.specs.declared.found.VoteSignature.{VoteSignature}
+use Rattle.item_terms.specs.{Items.Item, Words.words_of}
+use Rattle.dirdoc_grammar.specs.{Bodies.body_text, Writers.is_argument, Writing.{IsLineRest, IsWritableObject}}
+use Rattle.dir_values.{proofs.Orders.same_text, specs.{Digests.fingerprint, Names.algorithm}}
+use Rattle.dir_values.specs.declared.algorithm.Algorithm.{Algorithm, TheVariants.{Sha1, Sha256}}
+use Rattle.dir_values.specs.declared.digest.{Digest1.Digest1, Fingerprint.Fingerprint}
+use Rattle.frame_values.specs.{Ranges.AreTwenty, declared.found.{Span.Span, VoteSignature.VoteSignature}}
 use Rattle.frame_values.specs.declared.values.Value.TheVariants as value
 use Rattle.frame_laws.proofs.Words.{IsWord}
-use Rattle.consensus_terms.specs.Signed.{signer_text}
-use Rattle.consensus_terms.specs.declared.signature.SignatureLine.{SignatureLine}
+use Rattle.consensus_terms.specs.{Signed.signer_text, declared.signature.SignatureLine.SignatureLine}
 use Rattle.consensus_doc.specs.Drafts.{algorithm_name}
 use Rattle.consensus_laws.proofs.SignatureLines.{name_if, name_of, signer_same}
 use Rattle.detached_frame.specs.Tables.{detached_tables, value_at}
@@ -33,19 +21,14 @@ use Rattle.detached_frame.specs.declared.said.DetachedKind.{DetachedKind}
 use Rattle.detached_frame.specs.declared.said.DetachedKind.TheVariants as kind
 use Rattle.detached_frame.specs.declared.said.DetachedValue.TheVariants as own
 use Rattle.row_laws.proofs.Columns.{AreSomeBytes, a_hex, a_key, a_word, an_identity, before, before_laws, hex_laws}
-use Rattle.row_laws.proofs.Columns.{identity_laws, key_laws, last, last_laws, word_laws}
-use Rattle.row_laws.proofs.ItemKinds.{IsKind, KindLaws, a_time, four_with, kind_tied, of_line_laws, three, time_laws}
-use Rattle.row_laws.proofs.ItemKinds.{with_any_laws}
-use Rattle.row_laws.proofs.ItemArguments.{IsSound}
-use Rattle.row_laws.proofs.Signatures.{AreSignedIf, Signed, known_again, known_gives, known_means, known_tied, named}
-use Rattle.row_laws.proofs.Signatures.{signed_in, signed_so}
-use Rattle.row_laws.proofs.Rows.{RowLaws}
-use Rattle.row_laws.proofs.Spoken.{Words, new_words, words_in}
-use Rattle.row_laws.proofs.Ties.{Gives, Tied, and_said, said_gives}
-use Rattle.detached_laws.specs.Again.{IsLineInRange}
-use Rattle.detached_laws.proofs.DetachedMeaning.{IsRead, MayWrite, Saying, as_said, digest, digest_kind, meaning}
-use Rattle.detached_laws.proofs.DetachedMeaning.{means, moment, other, other_kind, other_of, over, over_kind, over_of}
-use Rattle.detached_laws.proofs.DetachedMeaning.{said, signed, signed_if, unknown, write}
+use Rattle.row_laws.proofs.{Columns.{identity_laws, key_laws, last, last_laws, word_laws}, ItemKinds.{IsKind, KindLaws}}
+use Rattle.row_laws.proofs.ItemKinds.{a_time, four_with, kind_tied, of_line_laws, three, time_laws, with_any_laws}
+use Rattle.row_laws.proofs.{ItemArguments.IsSound, Signatures.{AreSignedIf, Signed, known_again, known_gives}}
+use Rattle.row_laws.proofs.{Signatures.{known_means, known_tied, named, signed_in, signed_so}, Rows.RowLaws}
+use Rattle.row_laws.proofs.{Spoken.{Words, new_words, words_in}, Ties.{Gives, Tied, and_said, said_gives}}
+use Rattle.detached_laws.{specs.Again.IsLineInRange, proofs.DetachedMeaning.{IsRead, MayWrite, Saying, as_said, digest}}
+use Rattle.detached_laws.proofs.DetachedMeaning.{digest_kind, meaning, means, moment, other, other_kind, other_of, over}
+use Rattle.detached_laws.proofs.DetachedMeaning.{over_kind, over_of, said, signed, signed_if, unknown, write}
 
 -- ---- each kind, by its columns
 

@@ -1,30 +1,20 @@
 -- What the items of detached signatures mean, without places, and how they are written.
-use Rattle.std.proofs.Common.{ℕ, ◌≤◌, List, [], Option, Some, None}
-use Rattle.std.specs.Prelude.{codes, if◌then◌else◌}
+use Rattle.std.{proofs.Common.{ℕ, ◌≤◌, List, [], Option, Some, None}, specs.Prelude.{codes, if◌then◌else◌}}
 use Rattle.std.specs.Option.{option_map}
 use Rattle.dir_bytes.specs.Causes.{last_moment}
 use Rattle.item_terms.specs.Words.{words_of}
-use Rattle.dir_values.specs.declared.digest.Digest1.{Digest1}
-use Rattle.dir_values.specs.declared.digest.Fingerprint.{Fingerprint}
-use Rattle.frame_values.specs.Parts.{part}
-use Rattle.frame_values.specs.declared.found.Span.{Span}
-use Rattle.frame_values.specs.Ranges.{AreTwenty}
-use Rattle.frame_values.specs.declared.values.Value.{Value}
+use Rattle.dir_values.specs.declared.digest.{Digest1.Digest1, Fingerprint.Fingerprint}
+use Rattle.frame_values.specs.{Parts.part, declared.{found.Span.Span, values.Value.Value}, Ranges.AreTwenty}
 use Rattle.frame_values.specs.declared.values.Value.TheVariants as value
-use Rattle.consensus_terms.specs.Signed.{signer_text}
-use Rattle.consensus_terms.specs.declared.signature.SignatureLine.{SignatureLine}
+use Rattle.consensus_terms.specs.{Signed.signer_text, declared.signature.SignatureLine.SignatureLine}
 use Rattle.consensus_doc.specs.Drafts.{algorithm_name}
 use Rattle.consensus_laws.specs.Again.{is_known}
-use Rattle.detached_frame.specs.declared.said.DetachedKind.{DetachedKind}
+use Rattle.detached_frame.specs.declared.said.{DetachedKind.DetachedKind, DetachedValue.DetachedValue}
 use Rattle.detached_frame.specs.declared.said.DetachedKind.TheVariants as kind
-use Rattle.detached_frame.specs.declared.said.DetachedValue.{DetachedValue}
 use Rattle.detached_frame.specs.declared.said.DetachedValue.TheVariants as own
-use Rattle.detached_doc.specs.Facts.{additional_in, digest_in}
-use Rattle.detached_doc.specs.declared.detached.AdditionalDigest.{AdditionalDigest}
-use Rattle.row_laws.proofs.ItemKinds.{Kind, a_time, of_line, with_any}
-use Rattle.row_laws.proofs.Columns.{a_hex, a_key, a_word, an_identity, before, last}
-use Rattle.row_laws.proofs.Signatures.{Signed, known_means, signed_in}
-use Rattle.row_laws.proofs.Rows.{Meaning}
+use Rattle.detached_doc.specs.{Facts.{additional_in, digest_in}, declared.detached.AdditionalDigest.AdditionalDigest}
+use Rattle.row_laws.proofs.{ItemKinds.{Kind, a_time, of_line, with_any}, Columns.{a_hex, a_key, a_word, an_identity}}
+use Rattle.row_laws.proofs.{Columns.{before, last}, Signatures.{Signed, known_means, signed_in}, Rows.Meaning}
 use Rattle.row_laws.proofs.Spoken.{Rest, Words}
 use Rattle.detached_laws.specs.Again.{IsDigestInRange, IsLineInRange}
 

@@ -1,10 +1,7 @@
 -- Signatures in their order are those that they were.
-use Rattle.std.proofs.Common.{Bool, true, false, List, [], ◌∷◌}
-use Rattle.std.specs.Prelude.{All, if◌then◌else◌}
-use Rattle.std.specs.List.{fold}
-use Rattle.std.proofs.lemmas.List.Elements.{All-cons, All-head, All-nil, All-tail}
-use Rattle.detached_doc.specs.Order.{in_order, stands_before, with_line}
-use Rattle.detached_doc.specs.declared.detached.DetachedLine.{DetachedLine}
+use Rattle.std.proofs.{Common.{Bool, true, false, List, [], ◌∷◌}, lemmas.List.Elements.{All-cons, All-head, All-nil}}
+use Rattle.std.{proofs.lemmas.List.Elements.All-tail, specs.{Prelude.{All, if◌then◌else◌}, List.fold}}
+use Rattle.detached_doc.specs.{Order.{in_order, stands_before, with_line}, declared.detached.DetachedLine.DetachedLine}
 
 module _ (P : DetachedLine → Type 0) where
   -- one more, wherever it is put

@@ -1,41 +1,23 @@
 -- What is read of detached signatures is in range.
 use Rattle.std.proofs.Common.{ℕ, ◌≤◌, Bool, true, false, List, [], ◌∷◌, ◌++◌, length, Option, Some, None, refl, sym}
-use Rattle.std.proofs.Common.{subst, arith}
-use Rattle.std.specs.Prelude.{All, IfSome, map, if◌then◌else◌}
-use Rattle.std.specs.List.{cons_option, find}
-use Rattle.std.specs.Option.{option_map}
-use Rattle.std.proofs.lemmas.List.{map-append}
-use Rattle.std.proofs.lemmas.List.Elements.{All-append, All-cons, All-nil}
+use Rattle.std.proofs.{Common.{subst, arith}, lemmas.List.{map-append, Elements.{All-append, All-cons, All-nil}}}
+use Rattle.std.specs.{Prelude.{All, IfSome, map, if◌then◌else◌}, List.{cons_option, find}, Option.option_map}
 use Rattle.dir_bytes.specs.Causes.{last_moment}
 use Rattle.dir_values.specs.declared.digest.Digest1.{Digest1}
-use Rattle.frame_terms.specs.Keywords.{same}
-use Rattle.frame_terms.specs.declared.document.Taken.{Taken}
-use Rattle.frame_terms.specs.declared.keyword.Keyword.{Keyword}
+use Rattle.frame_terms.specs.{Keywords.same, declared.{document.Taken.Taken, keyword.Keyword.Keyword}}
 use Rattle.frame_terms.specs.declared.keyword.Keyword.TheVariants as the
-use Rattle.frame_values.specs.Ranges.{AreTwenty}
-use Rattle.frame_values.specs.Parts.{moment_of}
-use Rattle.frame_values.specs.Values.{item_at}
-use Rattle.frame_values.specs.declared.values.Value.{Value}
-use Rattle.detached_frame.specs.Tables.{detached_tables}
-use Rattle.detached_frame.specs.declared.said.DetachedValue.{DetachedValue}
-use Rattle.detached_doc.specs.Facts.{detached_in, digest_in, line_in}
-use Rattle.detached_doc.specs.Kept.{kept_with, none_kept}
+use Rattle.frame_values.specs.{Ranges.AreTwenty, Parts.moment_of, Values.item_at, declared.values.Value.Value}
+use Rattle.detached_frame.specs.{Tables.detached_tables, declared.said.DetachedValue.DetachedValue}
+use Rattle.detached_doc.specs.{Facts.{detached_in, digest_in, line_in}, Kept.{kept_with, none_kept}}
 use Rattle.detached_doc.specs.Reading.{max_detached, with_detached}
+use Rattle.detached_doc.specs.declared.detached.{AdditionalDigest.AdditionalDigest, DetachedLine.DetachedLine}
 use Rattle.detached_doc.specs.Saying as saying
-use Rattle.detached_doc.specs.declared.detached.AdditionalDigest.{AdditionalDigest}
-use Rattle.detached_doc.specs.declared.detached.DetachedLine.{DetachedLine}
-use Rattle.row_laws.proofs.InRange.{EachMeant, each_meant}
-use Rattle.row_laws.proofs.KindRanges.{read_is}
-use Rattle.row_laws.proofs.Lookups.{collected, first_said, looked_up, say_all}
-use Rattle.row_laws.proofs.ReadBytes.{twenty_zeros}
-use Rattle.row_laws.proofs.Rows.{reads}
-use Rattle.row_laws.proofs.Spoken.{Spoken}
-use Rattle.detached_laws.specs.Again.{IsDigestInRange, IsLineInRange}
-use Rattle.detached_laws.specs.Read.{DetachedReadAreInRange, SaysInRange}
+use Rattle.row_laws.proofs.{InRange.{EachMeant, each_meant}, KindRanges.read_is, Lookups.{collected, first_said}}
+use Rattle.row_laws.proofs.{Lookups.{looked_up, say_all}, ReadBytes.twenty_zeros, Rows.reads, Spoken.Spoken}
+use Rattle.detached_laws.specs.{Again.{IsDigestInRange, IsLineInRange}, Read.{DetachedReadAreInRange, SaysInRange}}
 use Rattle.detached_laws.proofs.DetachedFields.{digest_of, digest_same, line_if, line_same, lines_of, other_if}
-use Rattle.detached_laws.proofs.DetachedFields.{other_same, others_of}
-use Rattle.detached_laws.proofs.DetachedKinds.{laws}
-use Rattle.detached_laws.proofs.DetachedMeaning.{InRange, IsRead, Saying, digest, meaning, other, over, said, signed}
+use Rattle.detached_laws.proofs.{DetachedFields.{other_same, others_of}, DetachedKinds.laws, DetachedMeaning.InRange}
+use Rattle.detached_laws.proofs.DetachedMeaning.{IsRead, Saying, digest, meaning, other, over, said, signed}
 
 -- ---- of what is said, without places
 

@@ -1,20 +1,16 @@
 -- Detached signatures that were written are read again (dir-spec, "Serving and fetching detached signatures").
-use Rattle.std.specs.Prelude.{◌≡◌, ℕ, ◌<◌, ◌≤◌, ◌&&◌, Bool, true, List, ◌++◌, length, All, Option, Some, None, is_some, not, Ok}
-use Rattle.std.specs.List.{filter}
+use Rattle.std.specs.Prelude.{◌≡◌, ℕ, ◌<◌, ◌≤◌, ◌&&◌, Bool, true, List, ◌++◌, length, All, Option, Some, None, is_some}
+use Rattle.std.specs.{Prelude.{not, Ok}, List.filter}
 use Rattle.base64.specs.GeneralPurpose.{IsBytes}
 use Rattle.dir_bytes.specs.Causes.{last_moment}
 use Rattle.dir_values.specs.Digests.{fingerprint}
-use Rattle.dirdoc_grammar.specs.Writers.{is_argument}
-use Rattle.dirdoc_grammar.specs.Writing.{AreWritable}
+use Rattle.dirdoc_grammar.specs.{Writers.is_argument, Writing.AreWritable}
 use Rattle.frame_values.specs.Ranges.{AreTwenty}
 use Rattle.consensus_terms.specs.declared.signature.SignatureLine.{SignatureLine}
 use Rattle.consensus_laws.specs.Again.{is_known}
-use Rattle.detached_doc.specs.declared.detached.AdditionalDigest.{AdditionalDigest}
-use Rattle.detached_doc.specs.declared.detached.Detached.{Detached}
-use Rattle.detached_doc.specs.declared.detached.DetachedLine.{DetachedLine}
-use Rattle.detached_doc.specs.Order.{in_order}
-use Rattle.detached_doc.specs.Reading.{detached_of, max_detached}
-use Rattle.detached_doc.specs.Texts.{detached_items, detached_text}
+use Rattle.detached_doc.specs.declared.detached.{AdditionalDigest.AdditionalDigest, Detached.Detached}
+use Rattle.detached_doc.specs.{declared.detached.DetachedLine.DetachedLine, Order.in_order, Reading.detached_of}
+use Rattle.detached_doc.specs.{Reading.max_detached, Texts.{detached_items, detached_text}}
 
 -- ---- what detached signatures may say
 

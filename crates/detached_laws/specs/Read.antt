@@ -2,8 +2,7 @@
 use Rattle.std.specs.Prelude.{◌≡◌, ℕ, ◌≤◌, List, All, Ok}
 use Rattle.dir_bytes.specs.Causes.{last_moment}
 use Rattle.frame_values.specs.Ranges.{AreTwenty}
-use Rattle.detached_doc.specs.declared.detached.Detached.{Detached}
-use Rattle.detached_doc.specs.Reading.{detached_of}
+use Rattle.detached_doc.specs.{declared.detached.Detached.Detached, Reading.detached_of}
 use Rattle.detached_laws.specs.Again.{IsDigestInRange, IsLineInRange}
 
 -- each of the values of detached signatures is one that can be read: all that `IsInRange` asks for, but that their items may

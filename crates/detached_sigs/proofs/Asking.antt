@@ -1,14 +1,11 @@
 -- What a verifier was asked so far, and one question more.
 use Rattle.std.proofs.Common.{◌≡◌, ℕ, ◌+◌, ◌<◌, List, [], ◌∷◌, ◌++◌, length, take, drop, get_or, refl, sym, ap, ◌∙◌}
-use Rattle.std.proofs.Common.{subst}
-use Rattle.std.proofs.lemmas.List.{take_more, drop_more, take-append-drop}
-use Rattle.std.specs.Prelude.{◌⊎◌}
-use Rattle.key_port.specs.Answers.{Steps}
-use Rattle.key_port.specs.declared.verifier.VerifyAnswer.{VerifyAnswer}
+use Rattle.std.{proofs.{Common.subst, lemmas.List.{take_more, drop_more, take-append-drop}}, specs.Prelude.◌⊎◌}
+use Rattle.key_port.specs.{Answers.Steps, declared.verifier.VerifyAnswer.VerifyAnswer}
 use Rattle.key_port.specs.declared.verifier.VerifyAnswer.TheVariants as answer
 use Rattle.consensus_terms.specs.declared.signature.SignatureLine.{SignatureLine}
-use Rattle.detached_sigs.specs.declared.key.SignerKey.{SignerKey}
-use Rattle.detached_sigs.specs.Questions.{AsksOfLine, RefusesLines, AnswersAt, AsksOfKey, AsksOfKeys, FailsAtKey}
+use Rattle.detached_sigs.specs.{declared.key.SignerKey.SignerKey, Questions.{AsksOfLine, RefusesLines, AnswersAt}}
+use Rattle.detached_sigs.specs.Questions.{AsksOfKey, AsksOfKeys, FailsAtKey}
 
 -- ---- a list and one of its items
 

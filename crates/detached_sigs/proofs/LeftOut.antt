@@ -1,15 +1,13 @@
 -- The signers among the keys so far, where the others are left out.
-use Rattle.std.proofs.Common.{◌≡◌, ℕ, ◌+◌, ◌<◌, List, [], ◌∷◌, ◌++◌, length, get_or, take, drop, true, sym, ap, subst, ◌∙◌, arith}
-use Rattle.std.proofs.lemmas.Grind.{common_steps}
-use Rattle.std.proofs.lemmas.List.{append_assoc, drop_more, take_more}
-use Rattle.std.proofs.lemmas.List.Elements.{All-nil, All-cons, All-head, All-tail}
-use Rattle.std.specs.Prelude.{All, AllPairs, remove}
+use Rattle.std.proofs.Common.{◌≡◌, ℕ, ◌+◌, ◌<◌, List, [], ◌∷◌, ◌++◌, length, get_or, take, drop, true, sym, ap, subst}
+use Rattle.std.proofs.{Common.{◌∙◌, arith}, lemmas.{Grind.common_steps, List.{append_assoc, drop_more, take_more}}}
+use Rattle.std.{proofs.lemmas.List.Elements.{All-nil, All-cons, All-head, All-tail}, specs.Prelude.{All, AllPairs}}
+use Rattle.std.specs.Prelude.{remove}
 use Rattle.dir_values.proofs.Orders.{AllPairs-head, AllPairs-tail}
 use Rattle.key_port.specs.Answers.{Rules}
 use Rattle.consensus_terms.specs.declared.signature.SignatureLine.{SignatureLine}
-use Rattle.detached_sigs.specs.declared.key.SignerKey.{SignerKey}
-use Rattle.detached_sigs.specs.Signers.{AreApart, AreSigners, has_good_line, has_bad_lines}
-use Rattle.detached_sigs.proofs.Signing.{signer_more, other_more}
+use Rattle.detached_sigs.specs.{declared.key.SignerKey.SignerKey, Signers.{AreApart, AreSigners, has_good_line}}
+use Rattle.detached_sigs.{specs.Signers.has_bad_lines, proofs.Signing.{signer_more, other_more}}
 
 -- Of all keys some were asked of; the signers among these stand before a place, and the keys that are left from there on.
 pub record AreSoFar (rules : Rules) (digest : List ℕ) (lines : List SignatureLine) (all keys : List SignerKey) (place : ℕ)

@@ -1,19 +1,14 @@
 -- The signers among some keys and one more.
 use Rattle.std.proofs.Common.{◌≡◌, ◌<◌, ◌≤◌, ◌+◌, ◌++◌, ℕ, List, [], ◌∷◌, length, take, get_or, true, inl, inr, subst}
-use Rattle.std.proofs.Common.{sym, ap, ◌∙◌, arith}
-use Rattle.std.proofs.lemmas.List.{take_more, get_or-take, length-take-le, length_push, get_or_default}
-use Rattle.std.proofs.lemmas.List.Elements.{All-push, All-weaker, All-contains, Contains-append_left, Contains-push}
-use Rattle.std.proofs.lemmas.List.Quantifiers.{all_pairs_push}
-use Rattle.std.specs.Prelude.{All, AllPairs, Contains, ◌⊎◌}
+use Rattle.std.proofs.{Common.{sym, ap, ◌∙◌, arith, Bool, false, not, ◌&&◌, ◌||◌, refl}, lemmas.List.take_more}
+use Rattle.std.proofs.lemmas.List.{get_or-take, length-take-le, length_push, get_or_default, Elements.All-push}
+use Rattle.std.proofs.lemmas.List.Elements.{All-weaker, All-contains, Contains-append_left, Contains-push}
+use Rattle.std.{proofs.lemmas.{List.Quantifiers.all_pairs_push, Bool.false≢true}, specs.Prelude.{All, AllPairs}}
+use Rattle.std.specs.{Prelude.{Contains, ◌⊎◌}, List.list_all}
 use Rattle.key_port.specs.Answers.{Rules}
-use Rattle.detached_sigs.specs.declared.key.SignerKey.{SignerKey}
+use Rattle.detached_sigs.specs.{declared.key.SignerKey.SignerKey, Signers.{AreApart, AreSigners, CountsSigners}}
+use Rattle.detached_sigs.{specs.Signers.{has_good_line, has_bad_lines, is_line_of, is_signed}, proofs.Asking.taken}
 use Rattle.consensus_terms.specs.declared.signature.SignatureLine.{SignatureLine}
-use Rattle.detached_sigs.specs.Signers.{AreApart, AreSigners, CountsSigners, has_good_line, has_bad_lines}
-use Rattle.detached_sigs.specs.Signers.{is_line_of, is_signed}
-use Rattle.detached_sigs.proofs.Asking.{taken}
-use Rattle.std.proofs.Common.{Bool, false, not, ◌&&◌, ◌||◌, refl}
-use Rattle.std.specs.List.{list_all}
-use Rattle.std.proofs.lemmas.Bool.{false≢true}
 
 -- a key that signs is one more
 pub signer_more : (rules : Rules) (digest : List ℕ) (before : List SignerKey) (key : SignerKey)

@@ -1,13 +1,11 @@
 -- What a verifier is asked where signers are counted: of each key's lines, in their order, until it does not refuse
 -- one.
 use Rattle.std.specs.Prelude.{◌≡◌, ◌⊎◌, ℕ, true, false, List, [], ◌∷◌, ◌++◌}
-use Rattle.key_port.specs.Answers.{Steps}
+use Rattle.key_port.specs.{Answers.Steps, declared.verifier.VerifyAnswer.VerifyAnswer}
 use Rattle.key_port.specs.declared.verifier.KeyKind.TheVariants as kind
-use Rattle.key_port.specs.declared.verifier.VerifyAnswer.{VerifyAnswer}
 use Rattle.key_port.specs.declared.verifier.VerifyAnswer.TheVariants as answer
 use Rattle.consensus_terms.specs.declared.signature.SignatureLine.{SignatureLine}
-use Rattle.detached_sigs.specs.declared.key.SignerKey.{SignerKey}
-use Rattle.detached_sigs.specs.Signers.{is_line_of}
+use Rattle.detached_sigs.specs.{declared.key.SignerKey.SignerKey, Signers.is_line_of}
 
 -- of a line of the key it is asked, and answers so; of another line it is not asked, and stays as it was
 abbrev pub AsksOfLine : {V : Type 0} → Steps V → List ℕ → SignerKey → SignatureLine → V → VerifyAnswer → V → Type 0

@@ -1,13 +1,11 @@
 -- Who signed a digest (dir-spec, "Serving and fetching detached signatures"): the members of some keys, by lines of
 -- signatures and what a verifier may answer of them.
 use Rattle.std.specs.Prelude.{◌≡◌, ◌&&◌, ◌||◌, ◌⊎◌, ℕ, Bool, true, false, not, List, length, All, AllPairs, Contains}
-use Rattle.std.specs.List.{list_any, list_all}
-use Rattle.std.specs.Str.{bytes_eq}
+use Rattle.std.specs.{List.{list_any, list_all}, Str.bytes_eq}
 use Rattle.sha1.specs.Sha1.{sha1}
 use Rattle.dir_values.specs.Digests.{same_identity}
-use Rattle.key_port.specs.Answers.{Relation, Rules}
+use Rattle.key_port.specs.{Answers.{Relation, Rules}, declared.verifier.VerifyAnswer.VerifyAnswer}
 use Rattle.key_port.specs.declared.verifier.KeyKind.TheVariants as kind
-use Rattle.key_port.specs.declared.verifier.VerifyAnswer.{VerifyAnswer}
 use Rattle.key_port.specs.declared.verifier.VerifyAnswer.TheVariants as answer
 use Rattle.consensus_terms.specs.declared.signature.SignatureLine.{SignatureLine}
 use Rattle.detached_sigs.specs.declared.key.SignerKey.{SignerKey}

@@ -4,8 +4,8 @@ ghost use Rattle.dir_bytes.specs.Causes.{Rose};
 ghost use Rattle.key_port.specs.Answers.{rules, CountsAnswers};
 ghost use Rattle.sha1.specs.Sha1.{sha1};
 ghost use Rattle.detached_sigs.specs.Signers as signers;
-ghost use Rattle.detached_sigs.specs.Signers.{AreApart, CountsSigners, SignsBy, SignsLine};
-ghost use Rattle.detached_sigs.specs.Questions.{AsksOfLine, AsksOfKey, AsksOfKeys, FailsAtKey};
+ghost use Rattle.detached_sigs.specs.{Signers.{AreApart, CountsSigners, SignsBy, SignsLine}, Questions.AsksOfLine};
+ghost use Rattle.detached_sigs.specs.Questions.{AsksOfKey, AsksOfKeys, FailsAtKey};
 
 use crate::key::SignerKey;
 use consensus_terms::SignatureLine;

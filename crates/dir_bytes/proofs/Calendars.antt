@@ -1,15 +1,11 @@
 -- Dates of the calendar from 1970 on, and their day numbers.
 use Rattle.std.proofs.Common.{◌≡◌, ℕ, ◌≤◌, inl, inr, ◌∙◌, arith, ℤ, pos, unsigned_abs, w8, w16, w32, to_z, of_z, Some}
+use Rattle.std.proofs.lemmas.{Int.{to_z-of_z, to_z_pos, ints}, Bool.{cases_eq, Decides.nat_tests}}
 use Rattle.std.specs.Prelude.{FitsSigned}
-use Rattle.std.proofs.lemmas.Int.{to_z-of_z, to_z_pos, ints}
-use Rattle.std.proofs.lemmas.Bool.{cases_eq}
-use Rattle.std.proofs.lemmas.Bool.Decides.{nat_tests}
-use Rattle.jiff_core.specs.declared.civil.date.Date.{Date}
-use Rattle.jiff_core.specs.Calendar.{days_from_civil, day_count, IsCivilDate}
-use Rattle.jiff_core.specs.Date.{epoch_day, IsYmd}
-use Rattle.jiff_core.proofs.SignedLemmas.{signed_arith, one_part}
-use Rattle.jiff_core.proofs.DateLemmas.{civil}
-use Rattle.jiff_core.proofs.CalendarLemmas.{days_from_civil-day_count, day_count-epoch, day_count-lt_year, day_count-day_of_year, day_count_bounds}
+use Rattle.jiff_core.specs.{declared.civil.date.Date.Date, Calendar.{days_from_civil, day_count, IsCivilDate}}
+use Rattle.jiff_core.{specs.Date.{epoch_day, IsYmd}, proofs.{SignedLemmas.{signed_arith, one_part}, DateLemmas.civil}}
+use Rattle.jiff_core.proofs.CalendarLemmas.{days_from_civil-day_count, day_count-epoch, day_count-lt_year}
+use Rattle.jiff_core.proofs.CalendarLemmas.{day_count-day_of_year, day_count_bounds}
 use Rattle.dir_bytes.specs.Fields.{day_of}
 
 -- 1970-01-01 is the first of them

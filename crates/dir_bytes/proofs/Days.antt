@@ -1,13 +1,10 @@
 -- The date so many days after 1970-01-01 is the one that has this day number.
-use Rattle.std.proofs.Common.{◌≡◌, ℕ, zero, suc, ◌+◌, ◌<◌, ◌≤◌, inl, inr, refl, sym, ◌∙◌, arith, rules, pos, ◌/◌, ◌%◌, ◌∷◌, length, length-append}
-use Rattle.std.proofs.lemmas.Bool.{cases_lt, lt-ltb, le-ltb}
-use Rattle.jiff_core.specs.declared.civil.date.Date.{Date}
-use Rattle.jiff_core.specs.Calendar.{days_in_month, days_from_civil, IsCivilDate}
-use Rattle.jiff_core.specs.Date.{epoch_day}
-use Rattle.jiff_core.proofs.SignedLemmas.{signed_arith}
-use Rattle.jiff_core.proofs.CalendarLemmas.{days_in_month_bounds}
-use Rattle.jiff_core.proofs.DateLemmas.{days_from_civil-day, days_from_civil-next_month, days_from_civil-next_year, days_from_civil-max, epoch_day_injective}
-use Rattle.jiff_core.proofs.StandardFacts.{known_days}
+use Rattle.std.proofs.Common.{◌≡◌, ℕ, zero, suc, ◌+◌, ◌<◌, ◌≤◌, inl, inr, refl, sym, ◌∙◌, arith, rules, pos, ◌/◌, ◌%◌}
+use Rattle.std.proofs.{Common.{◌∷◌, length, length-append}, lemmas.Bool.{cases_lt, lt-ltb, le-ltb}}
+use Rattle.jiff_core.specs.{declared.civil.date.Date.Date, Calendar.{days_in_month, days_from_civil, IsCivilDate}}
+use Rattle.jiff_core.{specs.Date.epoch_day, proofs.{SignedLemmas.signed_arith, CalendarLemmas.days_in_month_bounds}}
+use Rattle.jiff_core.proofs.DateLemmas.{days_from_civil-day, days_from_civil-next_month, days_from_civil-next_year}
+use Rattle.jiff_core.proofs.{DateLemmas.{days_from_civil-max, epoch_day_injective}, StandardFacts.known_days}
 use Rattle.dir_bytes.specs.FieldTexts.{CivilDate, day_after, date_of, date_text, clock_text, moment_text}
 
 -- the date is one of the calendar from 1970 on, and has this day number

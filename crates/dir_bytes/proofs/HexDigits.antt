@@ -1,16 +1,11 @@
 -- Which texts are hex digits, two for each byte.
-use Rattle.std.proofs.Common.{◌≡◌, ℕ, ◌*◌, ◌/◌, ◌%◌, ◌-◌, Bool, true, false, cond, ◌&&◌, ◌||◌, List, [], ◌∷◌, length, Some, None, is_some, Result, Ok, Err, is_ok, refl, sym, ap, ◌∙◌, arith}
-use Rattle.std.specs.List.{list_all}
-use Rattle.std.specs.Result.{result_ok}
-use Rattle.std.specs.Char.{is_ascii_hexdigit}
-use Rattle.std.specs.Int.{is_in_range}
-use Rattle.std.proofs.lemmas.Bool.{false≢true}
-use Rattle.std.proofs.lemmas.List.Sums.{AllPass-from_list_all, list_all-from_AllPass}
-use Rattle.hex.specs.declared.error.FromHexError.{FromHexError}
-use Rattle.hex.specs.Hex.{decode_sized, is_hex_digit}
+use Rattle.std.proofs.Common.{◌≡◌, ℕ, ◌*◌, ◌/◌, ◌%◌, ◌-◌, Bool, true, false, cond, ◌&&◌, ◌||◌, List, [], ◌∷◌, length}
+use Rattle.std.proofs.Common.{Some, None, is_some, Result, Ok, Err, is_ok, refl, sym, ap, ◌∙◌, arith}
+use Rattle.std.proofs.lemmas.{Bool.false≢true, List.Sums.{AllPass-from_list_all, list_all-from_AllPass}}
+use Rattle.std.specs.{List.list_all, Result.result_ok, Char.is_ascii_hexdigit, Int.is_in_range}
+use Rattle.hex.specs.{declared.error.FromHexError.FromHexError, Hex.{decode_sized, is_hex_digit}}
 use Rattle.hex.proofs.HexLemmas.{IsOk-decode_sized, decode_sized-odd}
-use Rattle.dir_bytes.specs.Fields.{hex}
-use Rattle.dir_bytes.specs.HexBytes.{hex_bytes}
+use Rattle.dir_bytes.specs.{Fields.hex, HexBytes.hex_bytes}
 
 digit_by : (upper lower digit : Bool) (x y z : ℕ)
     → ((digit || upper) || lower) ≡ is_some (cond upper (Some x) (cond lower (Some y) (cond digit (Some z) None)))

@@ -1,13 +1,9 @@
 -- Digits read from the left.
-use Rattle.std.proofs.Common.{◌≡◌, ℕ, zero, suc, ◌+◌, ◌*◌, ◌/◌, ◌-◌, ◌<◌, ◌≤◌, ◌⊎◌, ◌&&◌, true, false, List, [], ◌∷◌, None, get_or, length, take, arith, take_all}
-use Rattle.std.specs.Char.{digit_value, is_ascii_digit}
-use Rattle.std.specs.Str.{all_ascii_digits}
-use Rattle.std.specs.Str.Parse.{digits_value}
-use Rattle.std.proofs.lemmas.Bool.{and_left, and_right, and_parts, and_from}
-use Rattle.std.proofs.lemmas.Bool.Decides.{nat_tests}
-use Rattle.std.proofs.lemmas.Str.{digit_value_digit}
-use Rattle.std.proofs.lemmas.Str.Parse.{digits_value-take-le}
-use Rattle.std.proofs.lemmas.Int.Digits.{digits_value_more}
+use Rattle.std.proofs.Common.{◌≡◌, ℕ, zero, suc, ◌+◌, ◌*◌, ◌/◌, ◌-◌, ◌<◌, ◌≤◌, ◌⊎◌, ◌&&◌, true, false, List, [], ◌∷◌}
+use Rattle.std.proofs.{Common.{None, get_or, length, take, arith, take_all}, lemmas.Bool.{and_left, and_right}}
+use Rattle.std.proofs.lemmas.{Bool.{and_parts, and_from, Decides.nat_tests}, Str.digit_value_digit}
+use Rattle.std.{proofs.lemmas.{Str.Parse.digits_value-take-le, Int.Digits.digits_value_more}, specs.Char.digit_value}
+use Rattle.std.specs.{Char.is_ascii_digit, Str.{all_ascii_digits, Parse.digits_value}}
 use Rattle.dir_bytes.specs.Fields.{number}
 
 -- what a digit is, and its value

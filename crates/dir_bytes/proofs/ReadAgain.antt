@@ -1,33 +1,20 @@
 -- What is written is read again.
-use Rattle.std.proofs.Common.{◌≡◌, ℕ, suc, ◌+◌, ◌*◌, ◌/◌, ◌%◌, ◌^◌, ◌<◌, ◌≤◌, true, false, List, [], ◌∷◌, ◌++◌, length, drop, get_or, refl, ap, ◌∙◌, arith, ℤ, pos, negsuc, unsigned_abs, w32, Some, Result}
-use Rattle.std.specs.Prelude.{FitsSigned}
-use Rattle.std.specs.Char.{digit_value, is_ascii_digit}
-use Rattle.std.specs.Fmt.{decimal, signed_decimal}
-use Rattle.std.specs.List.{position_or_len, before_first, after_first}
-use Rattle.std.specs.Option.{option_map}
-use Rattle.std.specs.Result.{result_ok}
-use Rattle.std.specs.Str.{all_ascii_digits}
-use Rattle.std.specs.Str.Parse.{digits_value, starts_with_minus}
-use Rattle.std.proofs.lemmas.Bool.{and_from, and_parts, ne_eqb}
-use Rattle.std.proofs.lemmas.Bool.Decides.{nat_tests}
-use Rattle.std.proofs.lemmas.Fmt.{decimal_is_IsNumeral}
-use Rattle.std.proofs.lemmas.Str.Parse.{digit_at, numerals_by_value, tells_all_ascii_digits}
-use Rattle.std.proofs.lemmas.Int.{ints}
-use Rattle.std.proofs.lemmas.List.{append_assoc, take_at}
-use Rattle.hex.specs.declared.error.FromHexError.{FromHexError}
-use Rattle.hex.specs.Hex.{encode_upper}
-use Rattle.hex.proofs.HexLemmas.{decode_sized-twice, decode_of-encode_upper}
-use Rattle.base64.specs.Engines.{standard_no_pad}
-use Rattle.base64.specs.GeneralPurpose.{IsBytes}
-use Rattle.base64.proofs.EngineFacts.{decode_of-encode_of}
+use Rattle.std.proofs.Common.{◌≡◌, ℕ, suc, ◌+◌, ◌*◌, ◌/◌, ◌%◌, ◌^◌, ◌<◌, ◌≤◌, true, false, List, [], ◌∷◌, ◌++◌, length}
+use Rattle.std.proofs.Common.{drop, get_or, refl, ap, ◌∙◌, arith, ℤ, pos, negsuc, unsigned_abs, w32, Some, Result}
+use Rattle.std.proofs.lemmas.{Bool.{and_from, and_parts, ne_eqb, Decides.nat_tests}, Fmt.decimal_is_IsNumeral}
+use Rattle.std.proofs.lemmas.{Str.Parse.{digit_at, numerals_by_value, tells_all_ascii_digits}, Int.ints}
+use Rattle.std.{proofs.lemmas.List.{append_assoc, take_at}, specs.{Prelude.FitsSigned, Char.digit_value}}
+use Rattle.std.specs.{Char.is_ascii_digit, Fmt.{decimal, signed_decimal}, List.{position_or_len, before_first}}
+use Rattle.std.specs.{List.after_first, Option.option_map, Result.result_ok, Str.{all_ascii_digits, Parse.digits_value}}
+use Rattle.std.specs.Str.Parse.{starts_with_minus}
+use Rattle.hex.{specs.{declared.error.FromHexError.FromHexError, Hex.encode_upper}, proofs.HexLemmas.decode_sized-twice}
+use Rattle.hex.proofs.HexLemmas.{decode_of-encode_upper}
+use Rattle.base64.{specs.{Engines.standard_no_pad, GeneralPurpose.IsBytes}, proofs.EngineFacts.decode_of-encode_of}
 use Rattle.jiff_core.proofs.CalendarLemmas.{days_in_month_bounds}
-use Rattle.dir_bytes.specs.Causes.{last_moment}
-use Rattle.dir_bytes.specs.Fields.{number, signed_number, date, time_of_day, moment, hex, base64, address, address_of, is_dot}
-use Rattle.dir_bytes.specs.FieldTexts.{date_of, two_digits, date_text, clock_text, hex_text, base64_text, address_text}
-use Rattle.dir_bytes.proofs.Calendars.{day_of-real}
-use Rattle.dir_bytes.proofs.Days.{date_of_is}
-use Rattle.dir_bytes.proofs.Spelling.{length-hex_text}
-use Rattle.dir_bytes.proofs.Symbols.{base64_if_decoded}
+use Rattle.dir_bytes.specs.{Causes.last_moment, Fields.{number, signed_number, date, time_of_day, moment, hex, base64}}
+use Rattle.dir_bytes.specs.{Fields.{address, address_of, is_dot}, FieldTexts.{date_of, two_digits, date_text}}
+use Rattle.dir_bytes.{specs.FieldTexts.{clock_text, hex_text, base64_text, address_text}, proofs.Calendars.day_of-real}
+use Rattle.dir_bytes.proofs.{Days.date_of_is, Spelling.length-hex_text, Symbols.base64_if_decoded}
 
 -- a numeral is read as its value
 number-numeral : (limit value : ℕ) (text : List ℕ) → 0 < length text → all_ascii_digits text ≡ true → digits_value 10 text ≡ value → value ≤ limit → number limit text ≡ Some value

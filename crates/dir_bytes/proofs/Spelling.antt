@@ -1,13 +1,10 @@
 -- Bytes as hex and base64: how long the texts are, and how they grow.
-use Rattle.std.proofs.Common.{◌≡◌, ℕ, ◌+◌, ◌*◌, ◌/◌, ◌%◌, ◌<◌, ◌≤◌, List, [], ◌∷◌, ◌++◌, length, take, drop, get_or, refl, sym, ap, ◌∙◌, arith, length-take}
+use Rattle.std.proofs.Common.{◌≡◌, ℕ, ◌+◌, ◌*◌, ◌/◌, ◌%◌, ◌<◌, ◌≤◌, List, [], ◌∷◌, ◌++◌, length, take, drop, get_or}
+use Rattle.std.proofs.{Common.{refl, sym, ap, ◌∙◌, arith, length-take}, lemmas.List.{take_more, take-append-drop}}
 use Rattle.std.specs.Prelude.{slice_index}
-use Rattle.std.proofs.lemmas.List.{take_more, take-append-drop}
-use Rattle.hex.specs.Hex.{encode_with, upper_digits}
-use Rattle.hex.proofs.HexLemmas.{length-encode_with}
-use Rattle.base64.specs.Engines.{standard_no_pad}
-use Rattle.base64.proofs.EngineFacts.{encode_of-append}
-use Rattle.dir_bytes.specs.FieldTexts.{hex_text, base64_text}
-use Rattle.dir_bytes.proofs.Symbols.{length-encode_of}
+use Rattle.hex.{specs.Hex.{encode_with, upper_digits}, proofs.HexLemmas.length-encode_with}
+use Rattle.base64.{specs.Engines.standard_no_pad, proofs.EngineFacts.encode_of-append}
+use Rattle.dir_bytes.{specs.FieldTexts.{hex_text, base64_text}, proofs.Symbols.length-encode_of}
 
 pub length-hex_text : (bytes : List ℕ) → length (hex_text bytes) ≡ 2 * length bytes
 unfolding hex_text

@@ -1,18 +1,14 @@
 -- What strict base64 decodes to, by its length.
-use Rattle.std.proofs.Common.{◌≡◌, ℕ, ◌<◌, ◌*◌, ◌+◌, ◌/◌, nat_lt, Bool, true, false, if◌then◌else◌, List, ◌++◌, length, Ok, Err, Result, Option, Some, None, inl, inr, refl, sym, ap, ◌∙◌, arith}
-use Rattle.std.specs.Result.{result_ok}
-use Rattle.std.specs.Option.{unwrap_or}
-use Rattle.std.proofs.lemmas.Bool.{cases_Bool, eq-eqb, ne_eqb, ltb-true}
-use Rattle.std.proofs.lemmas.List.{append-nil, drop_all, length-append}
-use Rattle.base64.specs.declared.decode.DecodeError.{DecodeError}
-use Rattle.base64.specs.declared.decode.DecodeSliceError.{DecodeSliceError}
-use Rattle.base64.specs.declared.decode.DecodeSliceError.TheVariants.{OutputSliceTooSmall}
-use Rattle.base64.specs.Decode.{IsWrittenOver, bytes_fit, decode_outcome, groups_before_last, groups_bytes, groups_error, lone_error, or_else, or_error, suffix_bytes, suffix_error}
-use Rattle.base64.specs.Engines.{standard_no_pad}
+use Rattle.std.proofs.Common.{◌≡◌, ℕ, ◌<◌, ◌*◌, ◌+◌, ◌/◌, nat_lt, Bool, true, false, if◌then◌else◌, List, ◌++◌, length}
+use Rattle.std.proofs.Common.{Ok, Err, Result, Option, Some, None, inl, inr, refl, sym, ap, ◌∙◌, arith}
+use Rattle.std.proofs.lemmas.{Bool.{cases_Bool, eq-eqb, ne_eqb, ltb-true}, List.{append-nil, drop_all, length-append}}
+use Rattle.std.specs.{Result.result_ok, Option.unwrap_or}
+use Rattle.base64.specs.declared.decode.{DecodeError.DecodeError, DecodeSliceError.DecodeSliceError}
+use Rattle.base64.specs.{declared.decode.DecodeSliceError.TheVariants.OutputSliceTooSmall, Decode.IsWrittenOver}
+use Rattle.base64.specs.Decode.{bytes_fit, decode_outcome, groups_before_last, groups_bytes, groups_error, lone_error}
+use Rattle.base64.specs.{Decode.{or_else, or_error, suffix_bytes, suffix_error}, Engines.standard_no_pad}
 use Rattle.base64.specs.GeneralPurpose.{IsStrict, decode_of, decode_slice_of, decoded_bytes_of, decoded_of, encode_of}
-use Rattle.base64.specs.Rfc4648.{encode_symbols}
-use Rattle.base64.proofs.Decoding.{length-groups_bytes}
-use Rattle.base64.proofs.RoundTrip.{length-encode_symbols}
+use Rattle.base64.{specs.Rfc4648.encode_symbols, proofs.{Decoding.length-groups_bytes, RoundTrip.length-encode_symbols}}
 use Rattle.dir_bytes.specs.Fields.{base64, of_length}
 
 pub strict : IsStrict standard_no_pad

@@ -1,13 +1,10 @@
 -- What the texts of values spell: numbers, dates, times of day, hex, base64 and addresses.
-use Rattle.std.specs.Prelude.{ℕ, ◌+◌, ◌*◌, ◌==◌, nat_le, nat_lt, ◌&&◌, Bool, List, length, drop, slice_index, slice_range, ℤ, pos, neg_ℤ, unsigned_abs, Option, Some, None, Result, Ok, Err, if◌then◌else◌}
-use Rattle.std.specs.Option.{option_map}
-use Rattle.std.specs.Result.{result_ok}
-use Rattle.std.specs.List.{before_first, after_first}
-use Rattle.std.specs.Str.{all_ascii_digits}
-use Rattle.std.specs.Str.Parse.{digits_value, starts_with_minus}
+use Rattle.std.specs.Prelude.{ℕ, ◌+◌, ◌*◌, ◌==◌, nat_le, nat_lt, ◌&&◌, Bool, List, length, drop, slice_index}
+use Rattle.std.specs.Prelude.{slice_range, ℤ, pos, neg_ℤ, unsigned_abs, Option, Some, None, Result, Ok, Err}
+use Rattle.std.specs.{Prelude.if◌then◌else◌, Option.option_map, Result.result_ok, List.{before_first, after_first}}
+use Rattle.std.specs.Str.{all_ascii_digits, Parse.{digits_value, starts_with_minus}}
 use Rattle.hex.specs.Hex.{decode_sized}
-use Rattle.base64.specs.Engines.{standard_no_pad}
-use Rattle.base64.specs.GeneralPurpose.{decoded_of}
+use Rattle.base64.specs.{Engines.standard_no_pad, GeneralPurpose.decoded_of}
 use Rattle.jiff_core.specs.Calendar.{days_in_month, days_from_civil}
 use Rattle.dir_bytes.specs.declared.fault.BadField.{BadField}
 

@@ -1,8 +1,7 @@
 -- Bytes as hex digits, however many.
 use Rattle.std.specs.Prelude.{◌≡◌, ℕ, ◌/◌, List, length, Option, Some}
 use Rattle.base64.specs.GeneralPurpose.{IsBytes}
-use Rattle.dir_bytes.specs.Fields.{hex}
-use Rattle.dir_bytes.specs.FieldTexts.{hex_text}
+use Rattle.dir_bytes.specs.{Fields.hex, FieldTexts.hex_text}
 
 -- the bytes that are spelled as two hex digits each, of either case, however many
 abbrev pub hex_bytes : List ℕ → Option (List ℕ)

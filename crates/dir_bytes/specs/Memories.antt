@@ -1,14 +1,11 @@
 -- What a source, a sink and a clock in memory do at each call.
-use Rattle.std.specs.Prelude.{◌≡◌, ℕ, ◌+◌, ◌-◌, ◌<◌, ◌≤◌, ◌==◌, ◌||◌, min, Bool, true, false, List, length, drop, slice_index, vec_len, vec_capacity, EachIndex}
-use Rattle.std.specs.List.{list_any}
-use Rattle.dir_bytes.specs.declared.source.ReadAnswer.{ReadAnswer}
+use Rattle.std.specs.Prelude.{◌≡◌, ℕ, ◌+◌, ◌-◌, ◌<◌, ◌≤◌, ◌==◌, ◌||◌, min, Bool, true, false, List, length, drop}
+use Rattle.std.specs.{Prelude.{slice_index, vec_len, vec_capacity, EachIndex}, List.list_any}
+use Rattle.dir_bytes.specs.declared.{source.ReadAnswer.ReadAnswer, sink.WriteAnswer.WriteAnswer}
+use Rattle.dir_bytes.specs.declared.{memory_source.MemorySource.MemorySource, memory_sink.MemorySink.MemorySink}
+use Rattle.dir_bytes.specs.{declared.memory_clock.MemoryClock.MemoryClock, Causes.{last_moment, next_count}}
 use Rattle.dir_bytes.specs.declared.source.ReadAnswer.TheVariants as read
-use Rattle.dir_bytes.specs.declared.sink.WriteAnswer.{WriteAnswer}
 use Rattle.dir_bytes.specs.declared.sink.WriteAnswer.TheVariants as write
-use Rattle.dir_bytes.specs.declared.memory_source.MemorySource.{MemorySource}
-use Rattle.dir_bytes.specs.declared.memory_sink.MemorySink.{MemorySink}
-use Rattle.dir_bytes.specs.declared.memory_clock.MemoryClock.{MemoryClock}
-use Rattle.dir_bytes.specs.Causes.{last_moment, next_count}
 
 -- whether the call with this number is to fail
 abbrev pub is_to_fail : List ℕ → ℕ → Bool
@@ -78,3 +75,9 @@ moments_of clock = clock.moments.items
 -- what a clock answers next: its moments in order, the last one again and again
 abbrev pub next_moment : MemoryClock → ℕ
 next_moment clock = min (slice_index (moments_of clock) (min clock.asks (length (moments_of clock) - 1))) last_moment
+
+-- the next moment is given, one more asking is counted, and what is to come stays
+pub record IsNextClock (old : MemoryClock) (moment : ℕ) (new : MemoryClock) : Type 0 where
+  pub next : moment ≡ next_moment old
+  pub asks : new.asks ≡ next_count old.asks
+  pub moments : moments_of new ≡ moments_of old

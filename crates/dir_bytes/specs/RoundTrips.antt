@@ -1,11 +1,9 @@
 -- What is written is read again.
-use Rattle.std.specs.Prelude.{◌≡◌, ℕ, ◌/◌, ◌%◌, ◌^◌, ◌<◌, ◌≤◌, List, length, ℤ, Some, FitsSigned}
-use Rattle.std.specs.Fmt.{decimal, signed_decimal}
-use Rattle.std.specs.Int.{w32}
+use Rattle.std.specs.{Prelude.{◌≡◌, ℕ, ◌/◌, ◌%◌, ◌^◌, ◌<◌, ◌≤◌, List, length, ℤ, Some, FitsSigned}, Fmt.decimal}
+use Rattle.std.specs.{Fmt.signed_decimal, Int.w32}
 use Rattle.base64.specs.GeneralPurpose.{IsBytes}
-use Rattle.dir_bytes.specs.Causes.{last_moment}
-use Rattle.dir_bytes.specs.Fields.{number, signed_number, date, time_of_day, moment, hex, base64, address}
-use Rattle.dir_bytes.specs.FieldTexts.{date_text, clock_text, hex_text, base64_text, address_text}
+use Rattle.dir_bytes.specs.{Causes.last_moment, Fields.{number, signed_number, date, time_of_day, moment, hex, base64}}
+use Rattle.dir_bytes.specs.{Fields.address, FieldTexts.{date_text, clock_text, hex_text, base64_text, address_text}}
 
 -- the digits of a number are read as that number
 abbrev pub NumberIsReadAgain : Type 0

@@ -1,17 +1,13 @@
 -- What a read takes off a source, and what a write adds to a sink.
 use Rattle.std.specs.Prelude.{◌≡◌, ℕ, ◌<◌, ◌≤◌, List, [], length, take, Result, Ok, Err, Some, None}
-use Rattle.std.specs.declared.option.Option.{Option}
-use Rattle.std.specs.Global.{Vec}
-use Rattle.std.specs.Io.KnownBytes.{Appends, Consumes, Keeps, IsAtEnd}
-use Rattle.dir_bytes.specs.declared.source.ReadAnswer.{ReadAnswer}
+use Rattle.std.specs.{declared.option.Option.Option, Global.Vec, Io.KnownBytes.{Appends, Consumes, Keeps, IsAtEnd}}
+use Rattle.dir_bytes.specs.declared.{source.ReadAnswer.ReadAnswer, sink.WriteAnswer.WriteAnswer}
+use Rattle.dir_bytes.specs.{declared.{reading.ReadAllFault.ReadAllFault, writing.WriteAll.WriteAll}, Causes.Rose}
+use Rattle.dir_bytes.specs.Causes.{next_count}
 use Rattle.dir_bytes.specs.declared.source.ReadAnswer.TheVariants as read
-use Rattle.dir_bytes.specs.declared.sink.WriteAnswer.{WriteAnswer}
 use Rattle.dir_bytes.specs.declared.sink.WriteAnswer.TheVariants as write
-use Rattle.dir_bytes.specs.declared.reading.ReadAllFault.{ReadAllFault}
 use Rattle.dir_bytes.specs.declared.reading.ReadAllFault.TheVariants as fault
-use Rattle.dir_bytes.specs.declared.writing.WriteAll.{WriteAll}
 use Rattle.dir_bytes.specs.declared.writing.WriteAll.TheVariants as all
-use Rattle.dir_bytes.specs.Causes.{Rose, next_count}
 
 -- a read gives at least one byte, and no more than there is room for
 abbrev pub GivesWithin : ReadAnswer → ℕ → Type 0

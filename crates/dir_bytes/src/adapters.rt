@@ -1,8 +1,8 @@
 // A source, a sink and a clock over those of std. They tell nothing of content.
 ghost use Rattle.std.specs.Prelude.{◌≡◌, ◌≤◌, ◌<◌, None, length};
-ghost use Rattle.dir_bytes.specs.Causes.{Counts, last_moment, next_count};
-ghost use Rattle.dir_bytes.specs.Streams.{GivesWithin, TakesFrom, CountsReads, faults_after_read};
-ghost use Rattle.dir_bytes.specs.Streams.{TakesWithin, AddsTo, CountsWrites, faults_after_write};
+ghost use Rattle.dir_bytes.specs.{Causes.{Counts, last_moment, next_count}, Streams.{GivesWithin, TakesFrom}};
+ghost use Rattle.dir_bytes.specs.Streams.{CountsReads, faults_after_read, TakesWithin, AddsTo, CountsWrites};
+ghost use Rattle.dir_bytes.specs.Streams.{faults_after_write};
 
 use crate::clock::{Clock, LAST_MOMENT};
 use crate::sink::{Sink, WriteAnswer};
@@ -122,11 +122,13 @@ impl<R: std::rt::Clock> Clock for SystemClock<R> {
 
     ghost asks = { λ s. s.asks };
 
+    ghost steps = { λ before moment after. (moment ≡ after.last) × (after.asks ≡ next_count before.asks) };
+
     fn now(&mut self) -> u64
         ensures moment { result ≤ last_moment }
         ensures last { self.new.last ≡ result }
         ensures asks { Counts self.old.asks self.new.asks }
-        ensures counted { self.new.asks ≡ next_count self.old.asks }
+        ensures step { (result ≡ self.new.last) × (self.new.asks ≡ next_count self.old.asks) }
     {
         self.asks = self.asks.saturating_add(1);
         if let Some(moment) = self.moment() {

@@ -13,9 +13,13 @@ pub trait Clock {
     /// How often the clock was asked. The count stands still at the last `u64`.
     ghost asks: { Self → ℕ };
 
+    /// The steps of a clock: from what it was, by the moment that it gave, to what it is.
+    ghost steps: { Self → ℕ → Self → Type 0 };
+
     /// A moment, at most 9999-12-31 23:59:59.
     fn now(&mut self) -> u64
         ensures moment { result ≤ last_moment }
         ensures last { last self.new ≡ result }
-        ensures asks { Counts (asks self.old) (asks self.new) };
+        ensures asks { Counts (asks self.old) (asks self.new) }
+        ensures step { steps self.old result self.new };
 }

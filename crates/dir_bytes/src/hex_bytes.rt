@@ -1,7 +1,5 @@
 // Bytes as hex digits, however many.
-ghost use Rattle.std.specs.Prelude.{◌≡◌, IfOk, is_some};
-ghost use Rattle.std.specs.Char.{is_ascii_hexdigit};
-ghost use Rattle.std.specs.List.{list_all};
+ghost use Rattle.std.specs.{Prelude.{◌≡◌, IfOk, is_some}, Char.is_ascii_hexdigit, List.list_all};
 ghost use Rattle.dir_bytes.specs.HexBytes.{hex_bytes, HexBytesAreReadAgain};
 
 use crate::digests::read_hex;

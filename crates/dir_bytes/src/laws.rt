@@ -1,5 +1,6 @@
 // Laws: what is written is read again. There is nothing to run.
-ghost use Rattle.dir_bytes.specs.RoundTrips.{NumberIsReadAgain, SignedIsReadAgain, DateIsReadAgain, ClockIsReadAgain, MomentIsReadAgain, HexIsReadAgain, Base64IsReadAgain, AddressIsReadAgain};
+ghost use Rattle.dir_bytes.specs.RoundTrips.{NumberIsReadAgain, SignedIsReadAgain, DateIsReadAgain, ClockIsReadAgain};
+ghost use Rattle.dir_bytes.specs.RoundTrips.{MomentIsReadAgain, HexIsReadAgain, Base64IsReadAgain, AddressIsReadAgain};
 
 /// The digits of a number are read as that number.
 pub fn number_is_read_again()

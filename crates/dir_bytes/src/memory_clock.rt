@@ -1,6 +1,6 @@
 // A clock in memory, which gives the moments that it was made with.
 ghost use Rattle.std.specs.Prelude.{◌≡◌, ◌≤◌, ◌<◌, vec_len};
-ghost use Rattle.dir_bytes.specs.Causes.{Counts, last_moment, next_count};
+ghost use Rattle.dir_bytes.specs.Causes.{Counts, last_moment};
 
 use crate::clock::{Clock, LAST_MOMENT};
 
@@ -35,19 +35,19 @@ impl MemoryClock {
 }
 
 impl Clock for MemoryClock {
-    ghost use Rattle.dir_bytes.specs.Memories.{moments_of, next_moment};
+    ghost use Rattle.dir_bytes.specs.Memories.{IsNextClock};
 
     ghost last = { λ s. s.last };
 
     ghost asks = { λ s. s.asks };
 
+    ghost steps = { λ before moment after. IsNextClock before moment after };
+
     fn now(&mut self) -> u64
         ensures moment { result ≤ last_moment }
         ensures last { self.new.last ≡ result }
         ensures asks { Counts self.old.asks self.new.asks }
-        ensures counted { self.new.asks ≡ next_count self.old.asks }
-        ensures next { result ≡ next_moment self.old }
-        ensures moments { moments_of self.new ≡ moments_of self.old }
+        ensures step { IsNextClock self.old result self.new }
     {
         let end = self.moments.len() as u64 - 1;
         let place = self.asks.min(end) as usize;

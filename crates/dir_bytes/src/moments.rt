@@ -1,8 +1,9 @@
 // Dates, times of day and moments.
-ghost use Rattle.std.specs.Prelude.{◌≡◌, ◌+◌, ◌<◌, ◌≤◌, ◌++◌, pos, IfOk, IfSome, OnOk, OnErr, IsOk, length, vec_len, vec_capacity};
-ghost use Rattle.dir_bytes.specs.Causes.{last_moment};
+ghost use Rattle.std.specs.Prelude.{◌≡◌, ◌+◌, ◌<◌, ◌≤◌, ◌++◌, pos, IfOk, IfSome, OnOk, OnErr, IsOk, length, vec_len};
+ghost use Rattle.std.specs.Prelude.{vec_capacity};
+ghost use Rattle.dir_bytes.specs.{Causes.last_moment, FieldTexts.{date_of, two_digits, date_text, clock_text}};
+ghost use Rattle.dir_bytes.specs.FieldTexts.{moment_text};
 ghost use Rattle.dir_bytes.specs.Fields as fields;
-ghost use Rattle.dir_bytes.specs.FieldTexts.{date_of, two_digits, date_text, clock_text, moment_text};
 
 use crate::append::{append, reserve};
 use crate::fault::{BadField, Memory};

@@ -1,8 +1,7 @@
 // Reading a source to its end.
 ghost use Rattle.std.specs.Prelude.{◌≡◌, ◌≤◌, ◌<◌, ◌+◌, vec_len, IfErr, IfOk, Err};
-ghost use Rattle.dir_bytes.specs.declared.reading.ReadAllFault.TheVariants.{Memory};
-ghost use Rattle.dir_bytes.specs.Causes.{Rose};
-ghost use Rattle.dir_bytes.specs.Streams.{ReadsAll, TakesAtMost};
+ghost use Rattle.dir_bytes.specs.{declared.reading.ReadAllFault.TheVariants.Memory, Causes.Rose, Streams.ReadsAll};
+ghost use Rattle.dir_bytes.specs.Streams.{TakesAtMost};
 
 use crate::source::{ReadAnswer, Source};
 use std::alloc::{AllocError, Global};

@@ -1,6 +1,5 @@
 // A sink of bytes, with a count of its faults.
-ghost use Rattle.std.specs.Prelude.{◌<◌, List, ℕ, length};
-ghost use Rattle.std.specs.declared.option.Option.{Option};
+ghost use Rattle.std.specs.{Prelude.{◌<◌, List, ℕ, length}, declared.option.Option.Option};
 ghost use Rattle.dir_bytes.specs.Streams.{TakesWithin, AddsTo, CountsWrites};
 
 /// What a write answers.

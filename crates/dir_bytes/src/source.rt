@@ -1,6 +1,5 @@
 // A source of bytes, with a count of its faults.
-ghost use Rattle.std.specs.Prelude.{◌<◌, List, ℕ, length};
-ghost use Rattle.std.specs.declared.option.Option.{Option};
+ghost use Rattle.std.specs.{Prelude.{◌<◌, List, ℕ, length}, declared.option.Option.Option};
 ghost use Rattle.dir_bytes.specs.Streams.{GivesWithin, TakesFrom, CountsReads};
 
 /// What a read answers.

@@ -1,19 +1,13 @@
 -- When a request at the front is settled.
-use Rattle.std.proofs.Common.{◌≡◌, ◌∙◌, inr, ℕ, ◌+◌, ◌-◌, ◌<◌, ◌≤◌, List, [], ◌∷◌, ◌++◌, length, drop}
-use Rattle.std.proofs.Common.{refl, ap, sym, Result, Ok, Err, arith, length-append, length-drop}
-use Rattle.std.proofs.lemmas.List.{append-nil}
-use Rattle.httparse.specs.Grammar.{RequestHead, HasNoRequest}
-use Rattle.httparse.specs.Spans.{RequestOverflows}
+use Rattle.std.proofs.Common.{◌≡◌, ◌∙◌, inr, ℕ, ◌+◌, ◌-◌, ◌<◌, ◌≤◌, List, [], ◌∷◌, ◌++◌, length, drop, refl, ap, sym}
+use Rattle.std.proofs.{Common.{Result, Ok, Err, arith, length-append, length-drop}, lemmas.List.append-nil}
+use Rattle.httparse.specs.{Grammar.{RequestHead, HasNoRequest}, Spans.RequestOverflows}
 use Rattle.httparse.proofs.GrammarLemmas.{request_unique, ReadsRequest-append}
-use Rattle.dir_http.specs.declared.fault.HttpFault.{HttpFault}
-use Rattle.dir_http.specs.declared.fault.HttpFault.TheVariants as fault
-use Rattle.dir_http.specs.declared.length.Method2.{Method2}
-use Rattle.dir_http.specs.declared.length.Announcement.{Announcement}
-use Rattle.dir_http.specs.declared.front.Parts.{Parts}
-use Rattle.dir_http.specs.Heads.{head_limit, field_limit, IsOfHead, length_after, body_length, method_of}
-use Rattle.dir_http.specs.Fronts.{ArePartsOf}
-use Rattle.dir_http.specs.Arrivals.{IsSettled, AwaitsBytes}
+use Rattle.dir_http.specs.declared.{fault.HttpFault.HttpFault, length.{Method2.Method2, Announcement.Announcement}}
+use Rattle.dir_http.specs.{declared.front.Parts.Parts, Heads.{head_limit, field_limit, IsOfHead, length_after}}
+use Rattle.dir_http.specs.{Heads.{body_length, method_of}, Fronts.ArePartsOf, Arrivals.{IsSettled, AwaitsBytes}}
 use Rattle.dir_http.proofs.Reading.{too_long, handed_on, unfinished}
+use Rattle.dir_http.specs.declared.fault.HttpFault.TheVariants as fault
 
 -- no head within the limit can stand there
 pub past_the_limit : (bytes : List ℕ) → HasNoRequest bytes → head_limit ≤ length bytes → IsSettled bytes

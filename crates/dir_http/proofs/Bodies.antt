@@ -1,10 +1,8 @@
 -- The pieces of a body, and the body whole.
 use Rattle.std.proofs.Common.{◌≡◌, ℕ, ◌+◌, ◌-◌, ◌≤◌, List, [], ◌++◌, length, take, drop, ap, sym, ◌∙◌, Option, Some}
-use Rattle.std.proofs.Common.{None, arith, length-drop, take_all, take-add, drop-drop}
-use Rattle.std.proofs.lemmas.List.{take-append-le, drop_all, drop-append-le}
-use Rattle.std.specs.Io.KnownBytes.{Consumes, IsAtEnd}
-use Rattle.dir_http.specs.declared.head.Head.{Head}
-use Rattle.dir_http.specs.Requests.{body_ahead}
+use Rattle.std.proofs.{Common.{None, arith, length-drop, take_all, take-add, drop-drop}, lemmas.List.take-append-le}
+use Rattle.std.{proofs.lemmas.List.{drop_all, drop-append-le}, specs.Io.KnownBytes.{Consumes, IsAtEnd}}
+use Rattle.dir_http.specs.{declared.head.Head.Head, Requests.body_ahead}
 
 -- the first bytes of a text and of the rest of it
 first_of : (r n : ℕ) (xs l : List ℕ) → n ≤ r → n ≤ length xs → take r (xs ++ l) ≡ take n xs

@@ -1,14 +1,9 @@
 -- The values of `Content-Length` among the first fields, and among one field more.
-use Rattle.std.proofs.Common.{◌≡◌, ℕ, zero, suc, ◌+◌, ◌<◌, Bool, true, false, List, [], ◌∷◌, ◌++◌, length, map}
-use Rattle.std.proofs.Common.{take, drop, get_or, refl, ap, sym, subst, ◌∙◌, filter, cond, Option, Some, None, All}
-use Rattle.std.proofs.Common.{arith, rules, append-nil}
-use Rattle.std.specs.Option.{option_to_list, is_some}
-use Rattle.std.proofs.lemmas.List.{take_more, take-append-drop}
-use Rattle.std.proofs.lemmas.List.Elements.{filter-append}
-use Rattle.std.proofs.lemmas.List.{map-append}
-use Rattle.httparse.specs.declared.spans.HeaderSpan.{HeaderSpan}
-use Rattle.httparse.specs.declared.spans.Span.{Span}
-use Rattle.httparse.specs.Spans.{header_bytes, span_bytes}
+use Rattle.std.proofs.Common.{◌≡◌, ℕ, zero, suc, ◌+◌, ◌<◌, Bool, true, false, List, [], ◌∷◌, ◌++◌, length, map, take}
+use Rattle.std.proofs.Common.{drop, get_or, refl, ap, sym, subst, ◌∙◌, filter, cond, Option, Some, None, All, arith}
+use Rattle.std.proofs.{Common.{rules, append-nil}, lemmas.List.{take_more, take-append-drop, Elements.filter-append}}
+use Rattle.std.{proofs.lemmas.List.map-append, specs.Option.{option_to_list, is_some}}
+use Rattle.httparse.specs.{declared.spans.{HeaderSpan.HeaderSpan, Span.Span}, Spans.{header_bytes, span_bytes}}
 use Rattle.dir_http.specs.declared.length.Announcement.TheVariants as says
 use Rattle.dir_http.specs.Heads.{is_length_name, length_values, announcement}
 

@@ -2,13 +2,11 @@
 use Rattle.std.proofs.Common.{◌≡◌, ◌≢◌, ℕ, zero, suc, ◌+◌, ◌<◌, ◌≤◌, ◌||◌, Bool, true, false, List, [], ◌∷◌, ◌++◌}
 use Rattle.std.proofs.Common.{length, refl, ap, sym, subst, ◌∙◌, All, IsTrue, arith, rules, append_assoc}
 use Rattle.std.specs.List.{flat_map}
-use Rattle.httparse.specs.Ascii.{space, colon, digit_zero}
-use Rattle.httparse.specs.Grammar.{AllPass, is_token_byte, is_uri_byte, is_value_byte, LineEnd, crlf, lf, print_end}
-use Rattle.httparse.specs.Grammar.{print_blank, print_version, Field, IsField, print_field, RequestHead}
-use Rattle.httparse.specs.Grammar.{IsRequestHead, print_request}
-use Rattle.dir_http.specs.declared.watch.LineWatch.{LineWatch}
+use Rattle.httparse.specs.{Ascii.{space, colon, digit_zero}, Grammar.{AllPass, is_token_byte, is_uri_byte}}
+use Rattle.httparse.specs.Grammar.{is_value_byte, LineEnd, crlf, lf, print_end, print_blank, print_version, Field}
+use Rattle.httparse.specs.Grammar.{IsField, print_field, RequestHead, IsRequestHead, print_request}
+use Rattle.dir_http.specs.{declared.watch.LineWatch.LineWatch, Watches.{state_after, ends_at, run, sees_end}}
 use Rattle.dir_http.specs.declared.watch.LineWatch.TheVariants as watch
-use Rattle.dir_http.specs.Watches.{state_after, ends_at, run, sees_end}
 
 -- no byte ends a line
 abbrev Plain : List ℕ → Type 0

@@ -1,22 +1,15 @@
 -- What was taken off a source, and what is left, as one text with a head at its front.
-use Rattle.std.proofs.Common.{◌≡◌, ℕ, ◌<◌, ◌≤◌, List, [], ◌++◌, length, take, drop, refl, ap, sym, subst, ◌∙◌}
-use Rattle.std.proofs.Common.{Option, Some, None, Result, Ok, Err, arith, take-take, length-take, take_all}
-use Rattle.std.proofs.lemmas.List.{take-append-drop, take-append-le, append-nil}
-use Rattle.std.proofs.lemmas.Bool.Decides.{leb_tells}
-use Rattle.std.proofs.Math.Logic.{⊎_elim}
-use Rattle.std.proofs.Math.Seq.{take-append_seam}
-use Rattle.std.specs.Io.KnownBytes.{Consumes}
-use Rattle.httparse.specs.Grammar.{RequestHead, HasNoRequest, print_request}
-use Rattle.httparse.proofs.GrammarLemmas.{request_unique, ReadsRequest-append}
-use Rattle.dir_http.specs.declared.fault.HttpFault.{HttpFault}
+use Rattle.std.proofs.Common.{◌≡◌, ℕ, ◌<◌, ◌≤◌, List, [], ◌++◌, length, take, drop, refl, ap, sym, subst, ◌∙◌, Option}
+use Rattle.std.proofs.Common.{Some, None, Result, Ok, Err, arith, take-take, length-take, take_all}
+use Rattle.std.proofs.lemmas.{List.{take-append-drop, take-append-le, append-nil}, Bool.Decides.leb_tells}
+use Rattle.std.{proofs.Math.{Logic.⊎_elim, Seq.take-append_seam}, specs.Io.KnownBytes.Consumes}
+use Rattle.httparse.{specs.Grammar.{RequestHead, HasNoRequest, print_request}, proofs.GrammarLemmas.request_unique}
+use Rattle.httparse.proofs.GrammarLemmas.{ReadsRequest-append}
+use Rattle.dir_http.specs.declared.{fault.HttpFault.HttpFault, length.{Method2.Method2, Announcement.Announcement}}
+use Rattle.dir_http.specs.{declared.{front.Parts.Parts, head.Head.Head}, Heads.{head_limit, IsHeadAt, IsOfHead}}
+use Rattle.dir_http.specs.{Heads.{length_after, body_length, method_of}, Fronts.ArePartsOf, Requests.HasNoGoodHead}
+use Rattle.dir_http.specs.Requests.{TellsHead, ReadsHead, AnswersHead, AtEndOrLimit, Whatever}
 use Rattle.dir_http.specs.declared.fault.HttpFault.TheVariants as fault
-use Rattle.dir_http.specs.declared.length.Method2.{Method2}
-use Rattle.dir_http.specs.declared.length.Announcement.{Announcement}
-use Rattle.dir_http.specs.declared.front.Parts.{Parts}
-use Rattle.dir_http.specs.declared.head.Head.{Head}
-use Rattle.dir_http.specs.Heads.{head_limit, IsHeadAt, IsOfHead, length_after, body_length, method_of}
-use Rattle.dir_http.specs.Fronts.{ArePartsOf}
-use Rattle.dir_http.specs.Requests.{HasNoGoodHead, TellsHead, ReadsHead, AnswersHead, AtEndOrLimit, Whatever}
 
 -- by which of two numbers is the greater
 order : {C : Type 0} (a b : ℕ) → (a ≤ b → C) → (b < a → C) → C

@@ -1,10 +1,9 @@
 -- A head and the body behind it are one request.
-use Rattle.std.proofs.Common.{◌≡◌, ℕ, ◌-◌, List, ◌++◌, length, take, drop, Option, Some, None, Result, Ok, Err}
-use Rattle.std.proofs.Common.{ap, sym, ◌∙◌, arith, length-take}
-use Rattle.dir_http.specs.declared.fault.HttpFault.{HttpFault}
+use Rattle.std.proofs.Common.{◌≡◌, ℕ, ◌-◌, List, ◌++◌, length, take, drop, Option, Some, None, Result, Ok, Err, ap, sym}
+use Rattle.std.proofs.Common.{◌∙◌, arith, length-take}
+use Rattle.dir_http.specs.{declared.{fault.HttpFault.HttpFault, head.Head.Head}, Requests.{ReadsBody, ReadsHead}}
+use Rattle.dir_http.specs.Requests.{ReadsWhole, body_ahead, request_with}
 use Rattle.dir_http.specs.declared.fault.HttpFault.TheVariants as fault
-use Rattle.dir_http.specs.declared.head.Head.{Head}
-use Rattle.dir_http.specs.Requests.{ReadsBody, ReadsHead, ReadsWhole, body_ahead, request_with}
 
 -- all of a body is what the head announces of the rest
 all_ahead : (head : Head) (left rest : List ℕ)

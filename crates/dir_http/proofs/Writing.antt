@@ -1,7 +1,6 @@
 -- One text written after another.
 use Rattle.std.proofs.Common.{◌≡◌, ℕ, ◌+◌, List, ◌++◌, length, take, ap, sym, ◌∙◌, Option, Some, None, append_assoc}
-use Rattle.std.proofs.Math.Seq.{take-append-add}
-use Rattle.std.specs.Io.KnownBytes.{Appends}
+use Rattle.std.{proofs.Math.Seq.take-append-add, specs.Io.KnownBytes.Appends}
 
 pub appends_front : (old mid new : Option (List ℕ)) (head body : List ℕ) (sent : ℕ) → Appends old mid head
     → Appends mid new (take sent body)

@@ -1,8 +1,7 @@
 -- Whether a request has arrived, as far as its bytes came.
 use Rattle.std.specs.Prelude.{◌≡◌, ◌⊎◌, ℕ, ◌<◌, ◌≤◌, List, ◌++◌, length, Ok, Err}
 use Rattle.httparse.specs.Grammar.{RequestHead}
-use Rattle.dir_http.specs.declared.fault.HttpFault.{HttpFault}
-use Rattle.dir_http.specs.Heads.{IsHeadAt, IsOfHead, length_after}
+use Rattle.dir_http.specs.{declared.fault.HttpFault.HttpFault, Heads.{IsHeadAt, IsOfHead, length_after}}
 use Rattle.dir_http.specs.Requests.{AnswersHead, Whatever}
 
 -- a whole request stands at the front: a head, and as many bytes as it announces

@@ -1,15 +1,13 @@
 -- What stands at the front of some bytes.
-use Rattle.std.specs.Prelude.{◌≡◌, ℕ, ◌≤◌, List, length, drop, map}
-use Rattle.httparse.specs.Grammar.{RequestHead, ReadsRequest, HasNoRequest, print_request, ResponseHead}
-use Rattle.httparse.specs.Grammar.{ReadsResponse, print_response, status_code}
-use Rattle.httparse.specs.Spans.{IsWithin, RequestOverflows, span_bytes, name_and_value}
-use Rattle.dir_http.specs.declared.front.Parts.{Parts}
-use Rattle.dir_http.specs.declared.front.Front.{Front}
+use Rattle.std.specs.{Prelude.{◌≡◌, ℕ, ◌≤◌, List, length, drop, map}, List.list_any}
+use Rattle.httparse.specs.Grammar.{RequestHead, ReadsRequest, HasNoRequest, print_request, ResponseHead, ReadsResponse}
+use Rattle.httparse.specs.{Grammar.{print_response, status_code}, Spans.{IsWithin, RequestOverflows, span_bytes}}
+use Rattle.httparse.specs.Spans.{name_and_value}
+use Rattle.dir_http.specs.declared.{front.{Parts.Parts, Front.Front}, answer_front.AnswerParts.AnswerParts}
+use Rattle.dir_http.specs.{declared.answer_front.AnswerFront.AnswerFront, Heads.{field_limit, method_of, announcement}}
+use Rattle.dir_http.specs.Heads.{length_values, is_coding}
 use Rattle.dir_http.specs.declared.front.Front.TheVariants as front
-use Rattle.dir_http.specs.declared.answer_front.AnswerParts.{AnswerParts}
-use Rattle.dir_http.specs.declared.answer_front.AnswerFront.{AnswerFront}
 use Rattle.dir_http.specs.declared.answer_front.AnswerFront.TheVariants as answer
-use Rattle.dir_http.specs.Heads.{field_limit, method_of, announcement, length_values}
 
 -- the parts are those of this head, which stands at the front
 pub record ArePartsOf (bytes : List ℕ) (parts : Parts) (head : RequestHead) : Type 0 where
@@ -37,6 +35,7 @@ pub record AreAnswerPartsOf (bytes : List ℕ) (parts : AnswerParts) (head : Res
   pub len : parts.len ≡ length (print_response head)
   pub fields : length head.fields ≤ field_limit
   pub code : parts.code ≡ status_code head
+  pub coded : parts.coded ≡ list_any is_coding (map name_and_value head.fields)
   pub announcement : parts.announcement ≡ announcement (length_values (map name_and_value head.fields))
 
 -- the head of a response at the front, or none with so few fields

@@ -1,15 +1,11 @@
 -- The head of a request, and how many bytes of body it announces.
-use Rattle.std.specs.Prelude.{ℕ, ◌≤◌, nat_le, List, [], ◌∷◌, length, map, filter, codes, if◌then◌else◌, Bool}
-use Rattle.std.specs.Prelude.{Option, Some, None, Result, Ok, Err}
-use Rattle.std.specs.Str.{bytes_eq, str_eq_ignore_ascii_case}
-use Rattle.httparse.specs.Grammar.{RequestHead, ReadsRequest, print_request}
-use Rattle.httparse.specs.Spans.{name_and_value}
+use Rattle.std.specs.Prelude.{ℕ, ◌≤◌, nat_le, List, [], ◌∷◌, length, map, filter, codes, if◌then◌else◌, Bool, ◌&&◌, not}
+use Rattle.std.specs.{Prelude.{Option, Some, None, Result, Ok, Err}, Str.{bytes_eq, str_eq_ignore_ascii_case}}
+use Rattle.httparse.specs.{Grammar.{RequestHead, ReadsRequest, print_request}, Spans.name_and_value}
 use Rattle.dir_bytes.specs.Fields.{number}
-use Rattle.dir_http.specs.declared.fault.HttpFault.{HttpFault}
+use Rattle.dir_http.specs.declared.{fault.HttpFault.HttpFault, length.{Method2.Method2, Announcement.Announcement}}
 use Rattle.dir_http.specs.declared.fault.HttpFault.TheVariants as fault
-use Rattle.dir_http.specs.declared.length.Method2.{Method2}
 use Rattle.dir_http.specs.declared.length.Method2.TheVariants as method
-use Rattle.dir_http.specs.declared.length.Announcement.{Announcement}
 use Rattle.dir_http.specs.declared.length.Announcement.TheVariants as says
 
 -- the most bytes that a head may have
@@ -52,6 +48,12 @@ abbrev pub announcement : List (List ℕ) → Announcement
 announcement [] = says.Nothing
 announcement (value ∷ []) = announcement_by (number 18446744073709551615 value)
 announcement (value ∷ other ∷ more) = says.Unclear
+
+-- whether a field says that the body is coded, as one that is compressed is (dir-spec, "HTTP headers")
+unfoldable pub is_coding : List ℕ × List ℕ → Bool
+is_coding field =
+    str_eq_ignore_ascii_case field.0 (codes "content-encoding")
+    && not (str_eq_ignore_ascii_case field.1 (codes "identity"))
 
 -- how many bytes of body a request has by its method, its path and what is announced, or why it is refused: only a POST
 -- has a body

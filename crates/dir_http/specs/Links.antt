@@ -1,12 +1,10 @@
 -- What a link answers to an exchange, and what is made of it.
 use Rattle.std.specs.Prelude.{◌≡◌, ◌⊎◌, ℕ, ◌≤◌, ◌<◌, List, length, Option, Some, None, Result, Ok, Err, vec_len}
-use Rattle.dir_bytes.specs.Causes.{Rose, next_count}
-use Rattle.dir_http.specs.declared.link.LinkAnswer.{LinkAnswer}
+use Rattle.dir_bytes.specs.Causes.{Rose}
+use Rattle.dir_http.specs.declared.{link.LinkAnswer.LinkAnswer, fetching.FetchFault.FetchFault}
+use Rattle.dir_http.specs.{declared.response.Response.Response, Responses.{ReadsAnswer, IsNoResponse}}
 use Rattle.dir_http.specs.declared.link.LinkAnswer.TheVariants as link
-use Rattle.dir_http.specs.declared.fetching.FetchFault.{FetchFault}
 use Rattle.dir_http.specs.declared.fetching.FetchFault.TheVariants as fault
-use Rattle.dir_http.specs.declared.response.Response.{Response}
-use Rattle.dir_http.specs.Responses.{ReadsAnswer, IsNoResponse}
 
 -- what is got has at most so many bytes
 abbrev pub GotWithin : ℕ → LinkAnswer → Type 0
@@ -29,13 +27,6 @@ CountsExchanges before now (link.Got bytes) = now ≡ before
 CountsExchanges before now link.TooLong = now ≡ before
 CountsExchanges before now link.Fault = Rose before now × (before ≤ now)
 CountsExchanges before now link.Memory = now ≡ before
-
--- how many faults there are after an exchange of a link that had so many
-abbrev pub faults_after_exchange : ℕ → LinkAnswer → ℕ
-faults_after_exchange faults (link.Got bytes) = faults
-faults_after_exchange faults link.TooLong = faults
-faults_after_exchange faults link.Fault = next_count faults
-faults_after_exchange faults link.Memory = faults
 
 -- what the bytes that a link gave are read as
 abbrev pub ReadsGiven : List ℕ → Result Response FetchFault → Type 0

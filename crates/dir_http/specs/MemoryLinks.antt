@@ -1,10 +1,8 @@
 -- What a link in memory does at each exchange.
 use Rattle.std.specs.Prelude.{◌≡◌, ℕ, ◌-◌, ◌++◌, ◌∷◌, min, List, [], length, slice_index_or}
 use Rattle.dir_bytes.specs.Causes.{next_count}
-use Rattle.dir_http.specs.declared.link.LinkAnswer.{LinkAnswer}
+use Rattle.dir_http.specs.declared.{link.LinkAnswer.LinkAnswer, memory_link.{Exchange.Exchange, MemoryLink.MemoryLink}}
 use Rattle.dir_http.specs.declared.link.LinkAnswer.TheVariants as link
-use Rattle.dir_http.specs.declared.memory_link.Exchange.{Exchange}
-use Rattle.dir_http.specs.declared.memory_link.MemoryLink.{MemoryLink}
 
 -- what is sent after so many exchanges: the replies in order, and the last one again and again
 abbrev pub reply_of : List (List ℕ) → ℕ → List ℕ

@@ -1,16 +1,11 @@
 -- What reading a request answers, over a source that tells what it has left.
 use Rattle.std.specs.Prelude.{◌≡◌, ℕ, ◌+◌, ◌-◌, ◌≤◌, ◌<◌, List, [], ◌++◌, length, take, drop, Option, Some, None}
-use Rattle.std.specs.Prelude.{Result, Ok, Err}
-use Rattle.std.specs.Global.{Vec}
-use Rattle.std.specs.Option.{option_map}
-use Rattle.std.specs.Io.KnownBytes.{Consumes, Keeps, IsAtEnd}
+use Rattle.std.specs.{Prelude.{Result, Ok, Err}, Global.Vec, Option.option_map, Io.KnownBytes.{Consumes, Keeps}}
+use Rattle.std.specs.Io.KnownBytes.{IsAtEnd}
 use Rattle.httparse.specs.Grammar.{RequestHead}
-use Rattle.dir_http.specs.declared.fault.HttpFault.{HttpFault}
+use Rattle.dir_http.specs.declared.{fault.HttpFault.HttpFault, head.Head.Head, length.Method2.Method2}
+use Rattle.dir_http.specs.{declared.request.Request.Request, Heads.{IsHeadAt, length_after, method_of, head_limit}}
 use Rattle.dir_http.specs.declared.fault.HttpFault.TheVariants as fault
-use Rattle.dir_http.specs.declared.head.Head.{Head}
-use Rattle.dir_http.specs.declared.length.Method2.{Method2}
-use Rattle.dir_http.specs.declared.request.Request.{Request}
-use Rattle.dir_http.specs.Heads.{IsHeadAt, length_after, method_of, head_limit}
 
 -- what is told where the source failed: that, or that what came before is the front of no head
 abbrev pub IsFailure : HttpFault → Type 0

@@ -1,19 +1,16 @@
 -- The texts of responses and requests, and what a whole response is.
-use Rattle.std.specs.Prelude.{◌≡◌, ℕ, ◌≤◌, ◌<◌, ◌==◌, List, [], ◌∷◌, ◌++◌, length, take, map, codes, decimal}
-use Rattle.std.specs.Prelude.{unwrap_or, Bool, Option, Result, Ok, Err}
-use Rattle.std.specs.List.{list_any}
+use Rattle.std.specs.Prelude.{◌≡◌, ℕ, ◌≤◌, ◌<◌, ◌==◌, List, [], ◌∷◌, ◌++◌, length, take, drop, map, codes, decimal}
+use Rattle.std.specs.{Prelude.{unwrap_or, Bool, false, Option, Some, None, Result, Ok, Err}, List.list_any}
 use Rattle.std.specs.Io.KnownBytes.{Appends, Keeps}
 use Rattle.http.specs.StatusCode.{reason_phrase}
-use Rattle.httparse.specs.Ascii.{carriage_return, line_feed}
-use Rattle.httparse.specs.Grammar.{ResponseHead, ReadsResponse, print_response, status_code}
-use Rattle.httparse.specs.Spans.{name_and_value}
+use Rattle.httparse.specs.{Ascii.{carriage_return, line_feed}, Grammar.{ResponseHead, ReadsResponse, print_response}}
+use Rattle.httparse.specs.{Grammar.status_code, Spans.name_and_value}
 use Rattle.dir_bytes.specs.Causes.{Rose}
-use Rattle.dir_http.specs.declared.length.Announcement.{Announcement}
+use Rattle.dir_http.specs.declared.{length.Announcement.Announcement, response.Response.Response}
+use Rattle.dir_http.specs.declared.{response.WriteRefusal.WriteRefusal, answer_front.AnswerParts.AnswerParts}
+use Rattle.dir_http.specs.Heads.{head_limit, field_limit, announcement, length_values, is_coding}
 use Rattle.dir_http.specs.declared.length.Announcement.TheVariants as says
-use Rattle.dir_http.specs.declared.response.Response.{Response}
-use Rattle.dir_http.specs.declared.response.WriteRefusal.{WriteRefusal}
 use Rattle.dir_http.specs.declared.response.WriteRefusal.TheVariants as refusal
-use Rattle.dir_http.specs.Heads.{head_limit, field_limit, announcement, length_values}
 
 -- the end of a line
 abbrev pub line_end : List ℕ
@@ -68,12 +65,13 @@ FitsLength says.Nothing count = Unit {0}
 FitsLength (says.Bytes said) count = said ≡ count
 FitsLength says.Unclear count = ⊥
 
--- the bytes are a head of at most so many bytes and fields, and then a body of the length that it announces
+-- the bytes are a head of at most so many bytes and fields, and then a body, not coded, of the length that it announces
 pub record IsWholeAs (bytes : List ℕ) (head : ResponseHead) (body : List ℕ) : Type 0 where
   pub reads : ReadsResponse bytes head body
   pub size : length (print_response head) ≤ head_limit
   pub fields : length head.fields ≤ field_limit
   pub fits : FitsLength (announcement (length_values (map name_and_value head.fields))) (length body)
+  pub plain : list_any is_coding (map name_and_value head.fields) ≡ false
 
 -- the bytes are a whole response of this code and body
 abbrev pub IsWholeResponse : List ℕ → ℕ → List ℕ → Type 0
@@ -82,6 +80,12 @@ IsWholeResponse bytes code body = (head : ResponseHead) × IsWholeAs bytes head 
 -- the bytes are no whole response
 abbrev pub IsNoResponse : List ℕ → Type 0
 IsNoResponse bytes = (head : ResponseHead) (body : List ℕ) → ¬ (IsWholeAs bytes head body)
+
+-- the bytes are a whole response, or none
+abbrev pub TellsWhole : List ℕ → Option AnswerParts → Type 0
+TellsWhole bytes None = IsNoResponse bytes
+TellsWhole bytes (Some parts) =
+    (parts.len ≤ length bytes) × IsWholeResponse bytes parts.code (drop parts.len bytes)
 
 -- what the bytes are read as
 abbrev pub ReadsAnswer : List ℕ → Response → Type 0

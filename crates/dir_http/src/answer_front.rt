@@ -1,7 +1,7 @@
 // The head of a response at the front of some bytes.
 ghost use Rattle.dir_http.specs.Fronts.{TellsAnswer};
 
-use crate::length::{Announcement, announcement_of};
+use crate::length::{Announcement, announcement_of, is_coded};
 use httparse::Status;
 use httparse::spans::{EMPTY_HEADER_SPAN, parse_response};
 
@@ -10,6 +10,8 @@ use httparse::spans::{EMPTY_HEADER_SPAN, parse_response};
 pub(crate) struct AnswerParts {
     pub(crate) code: u16,
     pub(crate) announcement: Announcement,
+    /// Whether the body is coded.
+    pub(crate) coded: bool,
     /// Where the body begins.
     pub(crate) len: usize,
 }
@@ -32,6 +34,7 @@ pub(crate) fn answer_front(bytes: &[u8]) -> AnswerFront
         Ok(Status::Complete(head)) => AnswerFront::Whole(AnswerParts {
             code: head.code,
             announcement: announcement_of(bytes, &fields[..head.headers]),
+            coded: is_coded(bytes, &fields[..head.headers]),
             len: head.len,
         }),
         _ => AnswerFront::No,

@@ -1,7 +1,6 @@
 // Whether a request has arrived, as far as its bytes came.
 ghost use Rattle.std.specs.Prelude.{◌≡◌};
-ghost use Rattle.dir_http.specs.Arrivals.{IsSettled, AwaitsBytes};
-ghost use Rattle.dir_http.specs.Fronts.{TellsFront};
+ghost use Rattle.dir_http.specs.{Arrivals.{IsSettled, AwaitsBytes}, Fronts.TellsFront};
 ghost use Rattle.dir_http.specs.declared.front.Front.TheVariants as front;
 
 use crate::front::{Front, Parts, front_of};

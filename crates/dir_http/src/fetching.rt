@@ -1,10 +1,10 @@
 // Asking a peer for a document, and bringing one to it.
 ghost use Rattle.std.specs.Prelude.{◌≡◌, ◌≤◌, Err, IfOk, MatchBool};
 ghost use Rattle.dir_bytes.specs.Causes.{Rose};
-ghost use Rattle.dir_http.specs.Links.{AsksOnce, ReadsGiven, ReadsSent};
-ghost use Rattle.dir_http.specs.Responses.{FitsLength, get_text, post_text};
+ghost use Rattle.dir_http.specs.{Links.{AsksOnce, ReadsGiven, ReadsSent}, Responses.{FitsLength, IsNoResponse}};
+ghost use Rattle.dir_http.specs.Responses.{TellsWhole, get_text, post_text};
 
-use crate::answer_front::{AnswerFront, answer_front};
+use crate::answer_front::{AnswerFront, AnswerParts, answer_front};
 use crate::head::HEAD_LIMIT;
 use crate::length::Announcement;
 use crate::link::{Link, LinkAnswer};
@@ -39,18 +39,35 @@ fn fits(announcement: Announcement, count: u64) -> bool
     }
 }
 
+/// The parts of the whole response that the bytes are, if they are one.
+fn whole_response(bytes: &[u8]) -> Option<AnswerParts>
+    ensures { TellsWhole bytes.now result }
+{
+    let AnswerFront::Whole(parts) = answer_front(bytes) else {
+        return None;
+    };
+    let count = (bytes.len() - parts.len) as u64;
+    if parts.len > HEAD_LIMIT || parts.coded || !fits(parts.announcement, count) {
+        return None;
+    }
+    Some(parts)
+}
+
+/// Whether the bytes are a whole response, whose body is not compressed.
+pub fn is_response(bytes: &[u8]) -> bool
+    ensures { MatchBool result (¬ (IsNoResponse bytes.now)) (IsNoResponse bytes.now) }
+{
+    whole_response(bytes).is_some()
+}
+
 /// What the bytes that a link gave are read as.
 fn read_response(alloc: Global, bytes: &[u8]) -> Result<Response, FetchFault>
     ensures { ReadsGiven bytes.now result }
 {
-    let AnswerFront::Whole(parts) = answer_front(bytes) else {
+    let Some(parts) = whole_response(bytes) else {
         return Err(FetchFault::BadAnswer);
     };
-    let body = &bytes[parts.len..];
-    if parts.len > HEAD_LIMIT || !fits(parts.announcement, body.len() as u64) {
-        return Err(FetchFault::BadAnswer);
-    }
-    match Vec::from_slice(alloc, body) {
+    match Vec::from_slice(alloc, &bytes[parts.len..]) {
         Ok(body) => Ok(Response {
             code: parts.code,
             body,

@@ -1,7 +1,6 @@
 // Reading the head of a request.
 ghost use Rattle.std.specs.Prelude.{◌≡◌, ◌≢◌, ◌≤◌, ◌<◌, Err, IfOk, IsErrAnd, length, vec_len};
-ghost use Rattle.dir_bytes.specs.Causes.{Rose};
-ghost use Rattle.dir_bytes.specs.Streams.{TakesAtMost};
+ghost use Rattle.dir_bytes.specs.{Causes.Rose, Streams.TakesAtMost};
 ghost use Rattle.dir_http.specs.Requests.{ReadsHead, AnswersHead, AtEndOrLimit, IsFailure, Whatever};
 ghost use Rattle.dir_http.specs.Fronts.{TellsFront};
 ghost use Rattle.dir_http.specs.declared.front.Front.TheVariants as front;

@@ -1,5 +1,5 @@
-// How long a body is: what the fields announce, and what its path allows.
-ghost use Rattle.std.specs.Prelude.{◌≡◌, ◌≤◌, All, IfErr, length, map};
+// What the fields announce of a body: how long it is, and whether it is coded; and what its path allows.
+ghost use Rattle.std.specs.{Prelude.{◌≡◌, ◌≤◌, All, IfErr, length, map}, List.list_any};
 ghost use Rattle.dir_http.specs.Heads as heads;
 ghost use Rattle.httparse.specs.Spans.{IsHeaderWithin, header_bytes};
 
@@ -84,6 +84,27 @@ pub(crate) fn announcement_of(bytes: &[u8], fields: &[HeaderSpan]) -> Announceme
             Err(_) => Announcement::Unclear,
         },
     }
+}
+
+/// Whether a field says that the body is coded: `Content-Encoding` of another value than `identity`.
+#[tactic(auto, unfolding(crate::specs::Heads::is_coding))]
+fn is_coding(name: &[u8], value: &[u8]) -> bool
+    ensures { result ≡ heads.is_coding (name.now, value.now) }
+{
+    name.eq_ignore_ascii_case(b"content-encoding") && !value.eq_ignore_ascii_case(b"identity")
+}
+
+/// Whether a field, whose name and value lie in the bytes, says that the body is coded.
+pub(crate) fn is_coded(bytes: &[u8], fields: &[HeaderSpan]) -> bool
+    requires within { All (IsHeaderWithin (length bytes.now)) fields.now }
+    ensures { result ≡ list_any heads.is_coding (map (header_bytes bytes.now) fields.now) }
+{
+    'fields: for field in fields {
+        if is_coding(field.name.of(bytes), field.value.of(bytes)) {
+            return true;
+        }
+    }
+    false
 }
 
 /// How many bytes of body follow a head, or why it is refused.

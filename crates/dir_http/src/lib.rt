@@ -22,7 +22,7 @@ mod watch;
 pub use arrival::missing;
 pub use body::BodyReader;
 pub use fault::HttpFault;
-pub use fetching::{FetchFault, POST_LIMIT, fetch, post};
+pub use fetching::{FetchFault, POST_LIMIT, fetch, is_response, post};
 pub use gate::{Gate, GateAnswer, ListenAnswer};
 pub use head::{HEAD_LIMIT, Head, read_head};
 pub use law::a_whole_head_is_seen;

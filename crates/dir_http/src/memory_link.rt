@@ -1,7 +1,7 @@
 // A link in memory, which tells what the peers send.
 ghost use Rattle.std.specs.Prelude.{◌≡◌, ◌∷◌, ◌++◌, [], OnOk, Some};
-ghost use Rattle.dir_http.specs.Links.{GotWithin, TellsSent, CountsExchanges};
-ghost use Rattle.dir_http.specs.MemoryLinks.{IsFreshLink, NotesExchange, exchange_of, reply_of};
+ghost use Rattle.dir_http.specs.{Links.{GotWithin, TellsSent, CountsExchanges}, MemoryLinks.IsFreshLink};
+ghost use Rattle.dir_http.specs.MemoryLinks.{NotesExchange, exchange_of, reply_of};
 
 use crate::link::{Link, LinkAnswer};
 use dir_bytes::{Memory, Text};

@@ -1,7 +1,8 @@
 // Reading a request whole.
 ghost use Rattle.std.specs.Prelude.{◌≡◌, ◌≤◌, ◌<◌, ℕ, List, Option, Ok, Err, IsErrAnd};
 ghost use Rattle.dir_bytes.specs.Causes.{Rose};
-ghost use Rattle.dir_http.specs.Requests.{IsFailure, ReadsBody, ReadsHead, ReadsWhole, body_ahead, bytes_of, request_of};
+ghost use Rattle.dir_http.specs.Requests.{IsFailure, ReadsBody, ReadsHead, ReadsWhole, body_ahead, bytes_of};
+ghost use Rattle.dir_http.specs.Requests.{request_of};
 
 use crate::body::BodyReader;
 use crate::fault::HttpFault;

@@ -1,9 +1,7 @@
 -- What ranges that are apart keep, the first and the others.
-use Rattle.std.proofs.Common.{◌≡◌, ℕ, ◌+◌, ◌≤◌, true, List, ◌∷◌}
+use Rattle.std.proofs.{Common.{◌≡◌, ℕ, ◌+◌, ◌≤◌, true, List, ◌∷◌}, lemmas.Bool.{and_from, and_parts, leb-true, le-leb}}
 use Rattle.std.specs.Prelude.{nat_le, ◌&&◌}
-use Rattle.std.proofs.lemmas.Bool.{and_from, and_parts, leb-true, le-leb}
-use Rattle.dir_values.specs.declared.port_range.PortRange.{PortRange}
-use Rattle.dir_values.specs.Ports.{last_port, are_apart}
+use Rattle.dir_values.specs.{declared.port_range.PortRange.PortRange, Ports.{last_port, are_apart}}
 
 pub record FirstApart (next : ℕ) (range : PortRange) (rest : List PortRange) : Type 0 where
   pub from : next ≤ range.low

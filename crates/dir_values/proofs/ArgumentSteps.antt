@@ -1,9 +1,8 @@
 -- The first argument of a text, and what is left after it.
-use Rattle.std.proofs.Common.{◌≡◌, ℕ, suc, ◌+◌, Bool, true, false, List, [], ◌∷◌, length, take, drop, refl, sym, ap, ap₂, ◌∙◌, subst, arith}
-use Rattle.std.specs.Prelude.{if◌then◌else◌, not}
+use Rattle.std.proofs.Common.{◌≡◌, ℕ, suc, ◌+◌, Bool, true, false, List, [], ◌∷◌, length, take, drop, refl, sym, ap}
+use Rattle.std.{proofs.Common.{ap₂, ◌∙◌, subst, arith}, specs.Prelude.{if◌then◌else◌, not}}
 use Rattle.item_terms.specs.Words.{is_blank}
-use Rattle.dir_values.specs.Arguments.{Argument, arguments_at, onto}
-use Rattle.dir_values.specs.Lending.{blanks, word_len}
+use Rattle.dir_values.specs.{Arguments.{Argument, arguments_at, onto}, Lending.{blanks, word_len}}
 
 -- blanks in front are passed over
 after_blanks : (place : ℕ) (text : List ℕ) → arguments_at place text ≡ arguments_at (place + blanks text) (drop (blanks text) text)

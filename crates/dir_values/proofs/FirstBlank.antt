@@ -1,8 +1,6 @@
 -- The first blank of a text, as a search finds it.
 use Rattle.std.proofs.Common.{◌≡◌, ℕ, Bool, true, false, List, length, get_or, Some, None, refl, ap, arith}
-use Rattle.std.specs.Prelude.{not}
-use Rattle.std.specs.List.{prefix_len}
-use Rattle.std.proofs.lemmas.List.Sums.{prefix_len_is}
+use Rattle.std.{proofs.lemmas.List.Sums.prefix_len_is, specs.{Prelude.not, List.prefix_len}}
 use Rattle.memchr.specs.Find.{IsFirstByte}
 
 not_true : (b : Bool) → (b ≡ true → ⊥) → b ≡ false

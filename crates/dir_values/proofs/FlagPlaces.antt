@@ -1,14 +1,9 @@
 -- The place of a flag among ascending flags, and whether it stands there.
-use Rattle.std.proofs.Common.{◌≡◌, ℕ, zero, suc, ◌+◌, ◌<◌, ◌≤◌, Bool, true, false, List, [], ◌∷◌, length, get_or, refl, sym, ap, ◌∙◌, subst, ⊎_elim, arith}
-use Rattle.std.specs.Prelude.{All, if◌then◌else◌}
-use Rattle.std.specs.List.{prefix_len}
-use Rattle.std.specs.List.Sorted.{IsPartitionedBy}
-use Rattle.std.specs.Str.{bytes_eq}
-use Rattle.std.proofs.lemmas.Bool.{cases_order}
-use Rattle.std.proofs.lemmas.List.Elements.{All-head, All-tail, All-weaker}
-use Rattle.dir_values.specs.Digests.{bytes_below}
-use Rattle.dir_values.specs.FlagSets.{Ascend, has_flag}
-use Rattle.dir_values.specs.Lending.{place_of, is_at}
+use Rattle.std.proofs.Common.{◌≡◌, ℕ, zero, suc, ◌+◌, ◌<◌, ◌≤◌, Bool, true, false, List, [], ◌∷◌, length, get_or, refl}
+use Rattle.std.proofs.{Common.{sym, ap, ◌∙◌, subst, ⊎_elim, arith}, lemmas.{Bool.cases_order, List.Elements.All-head}}
+use Rattle.std.{proofs.lemmas.List.Elements.{All-tail, All-weaker}, specs.Prelude.{All, if◌then◌else◌}}
+use Rattle.std.specs.{List.{prefix_len, Sorted.IsPartitionedBy}, Str.bytes_eq}
+use Rattle.dir_values.specs.{Digests.bytes_below, FlagSets.{Ascend, has_flag}, Lending.{place_of, is_at}}
 use Rattle.dir_values.proofs.Orders.{below-trans, below_or_same, apart, apart_back, AllPairs-head, AllPairs-tail}
 
 abbrev Below : List ℕ → List ℕ → Type 0

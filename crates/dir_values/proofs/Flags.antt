@@ -1,13 +1,10 @@
 -- Ascending flags: the place of one more, and which flags there are.
 use Rattle.std.proofs.Common.{◌≡◌, ℕ, suc, ◌+◌, Bool, true, false, List, [], ◌∷◌, refl, sym, ap, ◌∙◌, subst, arith}
-use Rattle.std.specs.Prelude.{All, insert, if◌then◌else◌, ◌||◌}
-use Rattle.std.specs.List.{fold}
-use Rattle.std.specs.Str.{bytes_eq}
-use Rattle.std.proofs.lemmas.List.Elements.{All-cons, All-nil, All-tail, All-head, All-weaker}
-use Rattle.dir_values.specs.Digests.{bytes_below}
-use Rattle.dir_values.specs.FlagSets.{Ascend, with_flag, as_set, has_flag}
-use Rattle.dir_values.specs.Lending.{place_of, is_at}
-use Rattle.dir_values.proofs.Orders.{below-trans, below_or_same, same_text, AllPairs-cons, AllPairs-head, AllPairs-tail, AllPairs-nil}
+use Rattle.std.{proofs.lemmas.List.Elements.{All-cons, All-nil, All-tail, All-head, All-weaker}, specs.Prelude.All}
+use Rattle.std.specs.{Prelude.{insert, if◌then◌else◌, ◌||◌}, List.fold, Str.bytes_eq}
+use Rattle.dir_values.specs.{Digests.bytes_below, FlagSets.{Ascend, with_flag, as_set, has_flag}, Lending.place_of}
+use Rattle.dir_values.{specs.Lending.is_at, proofs.Orders.{below-trans, below_or_same, same_text, AllPairs-cons}}
+use Rattle.dir_values.proofs.Orders.{AllPairs-head, AllPairs-tail, AllPairs-nil}
 
 -- a flag that stands at its place changes nothing
 pub with_flag-there : (flags : List (List ℕ)) (flag : List ℕ) → is_at flags (place_of flags flag) flag ≡ true → with_flag flags flag ≡ flags

@@ -1,13 +1,9 @@
 -- The arguments of a list of flags, one after the other.
 use Rattle.std.proofs.Common.{◌≡◌, ℕ, Bool, true, false, List, [], ◌∷◌, ◌++◌, Some, None, refl, sym, ap, ap₂, ◌∙◌}
-use Rattle.std.specs.Prelude.{◌&&◌, ◌||◌, not, if◌then◌else◌}
+use Rattle.std.{proofs.lemmas.List.Folds.list_any-append, specs.Prelude.{◌&&◌, ◌||◌, not, if◌then◌else◌}}
 use Rattle.std.specs.Str.{bytes_eq}
-use Rattle.std.proofs.lemmas.List.Folds.{list_any-append}
-use Rattle.dir_values.specs.Arguments.{Argument}
-use Rattle.dir_values.specs.Digests.{bytes_below}
-use Rattle.dir_values.specs.FlagSets.{is_name, is_among, has_flag, with_flag, wrong_flag}
-use Rattle.dir_values.proofs.Flags.{has_flag-with_flag}
-use Rattle.dir_values.proofs.Orders.{below-trans, apart}
+use Rattle.dir_values.specs.{Arguments.Argument, Digests.bytes_below, FlagSets.{is_name, is_among, has_flag, with_flag}}
+use Rattle.dir_values.{specs.FlagSets.wrong_flag, proofs.{Flags.has_flag-with_flag, Orders.{below-trans, apart}}}
 
 -- some arguments were walked, in which nothing is wrong, and these are left
 pub record Walks (whole left : List Argument) : Type 0 where

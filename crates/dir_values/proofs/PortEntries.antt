@@ -1,10 +1,9 @@
 -- What is left to write of a list of ranges, and what stood there before.
-use Rattle.std.proofs.Common.{◌≡◌, ℕ, suc, ◌+◌, ◌<◌, ◌≤◌, List, [], ◌∷◌, ◌++◌, length, take, drop, get_or}
-use Rattle.std.proofs.Common.{sym, ap, ◌∙◌, arith, length-append, length-take, drop-cons}
-use Rattle.std.proofs.lemmas.List.{take-append-drop, take-append-le}
+use Rattle.std.proofs.Common.{◌≡◌, ℕ, suc, ◌+◌, ◌<◌, ◌≤◌, List, [], ◌∷◌, ◌++◌, length, take, drop, get_or, sym, ap, ◌∙◌}
+use Rattle.std.proofs.{Common.{arith, length-append, length-take, drop-cons}, lemmas.List.take-append-drop}
+use Rattle.std.proofs.lemmas.List.{take-append-le}
 use Rattle.item_terms.specs.Bytes.{comma}
-use Rattle.dir_values.specs.declared.port_range.PortRange.{PortRange}
-use Rattle.dir_values.specs.Ports.{range_text, entries_text}
+use Rattle.dir_values.specs.{declared.port_range.PortRange.PortRange, Ports.{range_text, entries_text}}
 
 -- what is left to write before a range is written
 entries-drop : (separator : ℕ) (ranges : List PortRange) (i : ℕ) (d : PortRange) → i < length ranges

@@ -1,12 +1,9 @@
 -- The first part of a text and the others, and ranges that parts spell one after the other.
-use Rattle.std.proofs.Common.{◌≡◌, ℕ, suc, ◌+◌, ◌<◌, Bool, true, false, List, [], ◌∷◌, ◌++◌, length, take}
-use Rattle.std.proofs.Common.{refl, sym, ap, ◌∙◌, arith, Some, None, Option}
-use Rattle.std.specs.Prelude.{not, option_and_then, if◌then◌else◌}
-use Rattle.std.specs.List.{list_any, position_or_len, before_first, after_first, slice_split}
-use Rattle.std.proofs.lemmas.List.Splits.{slice_split_first}
-use Rattle.dir_values.specs.declared.port_range.PortRange.{PortRange}
-use Rattle.dir_values.specs.Lending.{from_port}
-use Rattle.dir_values.specs.Ports.{is_comma, range_of}
+use Rattle.std.proofs.Common.{◌≡◌, ℕ, suc, ◌+◌, ◌<◌, Bool, true, false, List, [], ◌∷◌, ◌++◌, length, take, refl, sym}
+use Rattle.std.proofs.{Common.{ap, ◌∙◌, arith, Some, None, Option}, lemmas.List.Splits.slice_split_first}
+use Rattle.std.specs.{Prelude.{not, option_and_then, if◌then◌else◌}, List.{list_any, position_or_len, before_first}}
+use Rattle.std.specs.List.{after_first, slice_split}
+use Rattle.dir_values.specs.{declared.port_range.PortRange.PortRange, Lending.from_port, Ports.{is_comma, range_of}}
 
 -- ---- the first part of a text, and the others
 

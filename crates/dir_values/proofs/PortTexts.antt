@@ -1,20 +1,13 @@
 -- What a list of ranges spells, range by range.
-use Rattle.std.proofs.Common.{◌≡◌, ℕ, suc, ◌+◌, ◌≤◌, Bool, true, false, List, [], ◌∷◌, ◌++◌, length, map}
-use Rattle.std.proofs.Common.{refl, sym, ap, ◌∙◌, subst, arith, Some, None, Option, append_assoc}
-use Rattle.std.specs.Prelude.{nat_le, ◌&&◌, IsTrue, option_and_then, if◌then◌else◌}
-use Rattle.std.specs.Option.{option_map}
-use Rattle.std.specs.List.{list_any, before_first, after_first, slice_split}
-use Rattle.std.specs.Str.Parse.{digits_value}
-use Rattle.std.proofs.lemmas.Bool.{and_from, le-leb}
-use Rattle.std.proofs.lemmas.Bool.Decides.{nat_tests}
-use Rattle.std.proofs.lemmas.List.{append-nil, length-map}
-use Rattle.std.proofs.lemmas.List.Splits.{length-slice_split}
+use Rattle.std.proofs.Common.{◌≡◌, ℕ, suc, ◌+◌, ◌≤◌, Bool, true, false, List, [], ◌∷◌, ◌++◌, length, map, refl, sym, ap}
+use Rattle.std.proofs.{Common.{◌∙◌, subst, arith, Some, None, Option, append_assoc}, lemmas.Bool.{and_from, le-leb}}
+use Rattle.std.proofs.lemmas.{Bool.Decides.nat_tests, List.{append-nil, length-map, Splits.length-slice_split}}
+use Rattle.std.specs.{Prelude.{nat_le, ◌&&◌, IsTrue, option_and_then, if◌then◌else◌}, Option.option_map, List.list_any}
+use Rattle.std.specs.{List.{before_first, after_first, slice_split}, Str.Parse.digits_value}
 use Rattle.dir_bytes.specs.Fields.{is_numeral, number}
-use Rattle.dir_values.specs.declared.port_range.PortRange.{PortRange}
-use Rattle.dir_values.specs.Lending.{from_port}
-use Rattle.dir_values.specs.Ports.{is_comma, is_hyphen, last_port, are_apart, are_ranges, if_apart, unless_zero}
-use Rattle.dir_values.specs.Ports.{listed_port, range_between, range_of, all_of, range_list}
-use Rattle.dir_values.proofs.PortParts.{ranges_after, more_after}
+use Rattle.dir_values.specs.{declared.port_range.PortRange.PortRange, Lending.from_port, Ports.{is_comma, is_hyphen}}
+use Rattle.dir_values.specs.Ports.{last_port, are_apart, are_ranges, if_apart, unless_zero, listed_port, range_between}
+use Rattle.dir_values.{specs.Ports.{range_of, all_of, range_list}, proofs.PortParts.{ranges_after, more_after}}
 
 -- ---- what a part spells
 

@@ -1,21 +1,14 @@
 -- What is written of ports is read as they are.
-use Rattle.std.proofs.Common.{◌≡◌, ℕ, ◌+◌, ◌<◌, ◌≤◌, Bool, true, false, List, [], ◌∷◌, ◌++◌, length, map}
-use Rattle.std.proofs.Common.{refl, sym, ap, ◌∙◌, arith, Some, None, Option, Ok, length-append}
-use Rattle.std.specs.Prelude.{nat_le, option_and_then, if◌then◌else◌, All, codes}
-use Rattle.std.specs.Option.{option_map}
-use Rattle.std.specs.List.{slice_split}
-use Rattle.std.proofs.lemmas.Bool.{and_parts}
-use Rattle.std.proofs.lemmas.List.{append-nil}
-use Rattle.std.proofs.lemmas.List.Elements.{All-nil, All-cons, All-head, All-tail, All-append, All-from_recursion}
-use Rattle.std.proofs.lemmas.List.Splits.{slice_split_none, slice_split_at}
-use Rattle.item_terms.specs.Bytes.{space, comma}
-use Rattle.item_terms.specs.Words.{is_blank, ends_or_blank}
-use Rattle.dir_values.specs.Arguments.{Argument, arguments_at, onto}
-use Rattle.dir_values.specs.declared.port_range.PortRange.{PortRange}
-use Rattle.dir_values.specs.Ports.{is_comma, are_apart, are_ranges, if_apart, range_of, all_of, range_list}
-use Rattle.dir_values.specs.Ports.{accept_of, ports_in, ports_after, ports_from, port_summary, range_text}
-use Rattle.dir_values.specs.Ports.{entries_text, word_text, summary_text, PortsAreReadAgain}
-use Rattle.dir_values.proofs.Apart.{FirstApart, first_apart}
+use Rattle.std.proofs.Common.{◌≡◌, ℕ, ◌+◌, ◌<◌, ◌≤◌, Bool, true, false, List, [], ◌∷◌, ◌++◌, length, map, refl, sym, ap}
+use Rattle.std.proofs.{Common.{◌∙◌, arith, Some, None, Option, Ok, length-append}, lemmas.Bool.and_parts}
+use Rattle.std.proofs.lemmas.List.{append-nil, Elements.{All-nil, All-cons, All-head, All-tail, All-append}}
+use Rattle.std.proofs.lemmas.List.{Elements.All-from_recursion, Splits.{slice_split_none, slice_split_at}}
+use Rattle.std.specs.{Prelude.{nat_le, option_and_then, if◌then◌else◌, All, codes}, Option.option_map, List.slice_split}
+use Rattle.item_terms.specs.{Bytes.{space, comma}, Words.{is_blank, ends_or_blank}}
+use Rattle.dir_values.specs.{Arguments.{Argument, arguments_at, onto}, declared.port_range.PortRange.PortRange}
+use Rattle.dir_values.specs.Ports.{is_comma, are_apart, are_ranges, if_apart, range_of, all_of, range_list, accept_of}
+use Rattle.dir_values.specs.Ports.{ports_in, ports_after, ports_from, port_summary, range_text, entries_text, word_text}
+use Rattle.dir_values.{specs.Ports.{summary_text, PortsAreReadAgain}, proofs.Apart.{FirstApart, first_apart}}
 use Rattle.dir_values.proofs.RangeTexts.{IsRange, no_comma, no_blank, range_lacks, range_some, range_again}
 
 -- a word is the first argument, where nothing or a blank follows

@@ -1,24 +1,16 @@
 -- The text of a range of ports, and that it is read as the range.
-use Rattle.std.proofs.Common.{◌≡◌, ℕ, suc, ◌+◌, ◌^◌, ◌<◌, ◌≤◌, Bool, true, false, List, [], ◌∷◌, ◌++◌, length}
-use Rattle.std.proofs.Common.{take, drop, refl, ap, ◌∙◌, arith, Some, None, Option, length-append, ⊎_elim}
-use Rattle.std.specs.Prelude.{nat_le, ◌==◌, ◌||◌, option_and_then, if◌then◌else◌, All}
-use Rattle.std.specs.Char.{is_ascii_digit}
-use Rattle.std.specs.Fmt.{decimal}
-use Rattle.std.specs.List.{list_any, position_or_len, before_first, after_first}
-use Rattle.std.specs.Str.{all_ascii_digits}
-use Rattle.std.proofs.lemmas.Bool.{and_parts, cases_Bool, eqb-true, le-leb, ne_eqb}
-use Rattle.std.proofs.lemmas.Bool.Decides.{nat_tests}
-use Rattle.std.proofs.lemmas.Fmt.{decimal_is_IsNumeral, decimal_nonempty}
-use Rattle.std.proofs.lemmas.Str.Parse.{numerals_by_value, tells_all_ascii_digits}
-use Rattle.std.proofs.lemmas.List.{take_at}
-use Rattle.std.proofs.lemmas.List.Elements.{All-nil, All-cons, All-head, All-tail, All-append}
-use Rattle.std.proofs.lemmas.List.Folds.{list_any_none}
+use Rattle.std.proofs.Common.{◌≡◌, ℕ, suc, ◌+◌, ◌^◌, ◌<◌, ◌≤◌, Bool, true, false, List, [], ◌∷◌, ◌++◌, length, take}
+use Rattle.std.proofs.Common.{drop, refl, ap, ◌∙◌, arith, Some, None, Option, length-append, ⊎_elim}
+use Rattle.std.proofs.lemmas.Bool.{and_parts, cases_Bool, eqb-true, le-leb, ne_eqb, Decides.nat_tests}
+use Rattle.std.proofs.lemmas.{Fmt.{decimal_is_IsNumeral, decimal_nonempty}, Str.Parse.numerals_by_value}
+use Rattle.std.proofs.lemmas.{Str.Parse.tells_all_ascii_digits, List.{take_at, Elements.{All-nil, All-cons, All-head}}}
+use Rattle.std.{proofs.lemmas.List.{Elements.{All-tail, All-append}, Folds.list_any_none}, specs.Prelude.{nat_le, ◌==◌}}
+use Rattle.std.specs.{Prelude.{◌||◌, option_and_then, if◌then◌else◌, All}, Char.is_ascii_digit, Fmt.decimal}
+use Rattle.std.specs.{List.{list_any, position_or_len, before_first, after_first}, Str.all_ascii_digits}
 use Rattle.dir_bytes.proofs.ReadAgain.{number-decimal}
-use Rattle.item_terms.specs.Bytes.{hyphen}
-use Rattle.item_terms.specs.Words.{is_blank}
-use Rattle.dir_values.specs.declared.port_range.PortRange.{PortRange}
-use Rattle.dir_values.specs.Ports.{is_comma, is_hyphen, last_port, unless_zero, listed_port, range_between, range_of}
-use Rattle.dir_values.specs.Ports.{range_text}
+use Rattle.item_terms.specs.{Bytes.hyphen, Words.is_blank}
+use Rattle.dir_values.specs.{declared.port_range.PortRange.PortRange, Ports.{is_comma, is_hyphen, last_port}}
+use Rattle.dir_values.specs.Ports.{unless_zero, listed_port, range_between, range_of, range_text}
 
 -- the text of a number is digits
 digits_of : (n : ℕ) → n < 2 ^ 64 → all_ascii_digits (decimal n) ≡ true

@@ -1,8 +1,7 @@
 -- The text of a set of flags, flag by flag.
-use Rattle.std.proofs.Common.{◌≡◌, ℕ, suc, ◌+◌, ◌<◌, List, [], ◌∷◌, ◌++◌, length, get_or, drop, sym, ap, ◌∙◌, arith, length-append, drop-cons}
-use Rattle.std.proofs.lemmas.List.{append-nil}
-use Rattle.dir_values.specs.FlagSets.{set_text}
-use Rattle.dir_values.specs.Lending.{after_text}
+use Rattle.std.proofs.Common.{◌≡◌, ℕ, suc, ◌+◌, ◌<◌, List, [], ◌∷◌, ◌++◌, length, get_or, drop, sym, ap, ◌∙◌, arith}
+use Rattle.std.proofs.{Common.{length-append, drop-cons}, lemmas.List.append-nil}
+use Rattle.dir_values.specs.{FlagSets.set_text, Lending.after_text}
 
 -- the first flag, and then each after a space
 pub set_text-cons : (first : List ℕ) (rest : List (List ℕ)) → set_text (first ∷ rest) ≡ first ++ after_text rest

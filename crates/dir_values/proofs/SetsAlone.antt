@@ -1,13 +1,9 @@
 -- Flags that ascend are the set of themselves, and one behind them all is put at the end.
-use Rattle.std.proofs.Common.{◌≡◌, ℕ, suc, ◌-◌, true, List, [], ◌∷◌, ◌++◌, length, refl, sym, ap, ◌∙◌, subst, append-nil, append_assoc, length-append, arith}
-use Rattle.std.specs.Prelude.{All, slice_get}
-use Rattle.std.specs.List.{fold}
-use Rattle.std.specs.Option.{option_map_or}
-use Rattle.std.proofs.lemmas.List.{get_or_append_left, get_or_at}
-use Rattle.std.proofs.lemmas.List.Elements.{All-nil, All-cons, All-head, All-tail}
-use Rattle.dir_values.specs.Digests.{bytes_below}
-use Rattle.dir_values.specs.FlagSets.{Ascend, with_flag}
-use Rattle.dir_values.specs.Lending.{comes_last}
+use Rattle.std.proofs.Common.{◌≡◌, ℕ, suc, ◌-◌, true, List, [], ◌∷◌, ◌++◌, length, refl, sym, ap, ◌∙◌, subst}
+use Rattle.std.proofs.{Common.{append-nil, append_assoc, length-append, arith}, lemmas.List.get_or_append_left}
+use Rattle.std.{proofs.lemmas.List.{get_or_at, Elements.{All-nil, All-cons, All-head, All-tail}}, specs.Prelude.All}
+use Rattle.std.specs.{Prelude.slice_get, List.fold, Option.option_map_or}
+use Rattle.dir_values.specs.{Digests.bytes_below, FlagSets.{Ascend, with_flag}, Lending.comes_last}
 use Rattle.dir_values.proofs.Orders.{below-trans, AllPairs-head, AllPairs-tail}
 
 abbrev Below : List ℕ → List ℕ → Type 0

@@ -1,13 +1,9 @@
 -- Versions and `v` values are in a total order, in which no two are alike.
-use Rattle.std.proofs.Common.{◌≡◌, ℕ, true, List, sym, ap, ◌∙◌}
-use Rattle.std.specs.declared.cmp.Ordering.{Ordering}
-use Rattle.std.specs.declared.cmp.Ordering.TheVariants.{Less, Equal, Greater}
-use Rattle.std.specs.Cmp.{IsTotalOrder}
-use Rattle.std.specs.Cmp.Lexicographic.{slice_cmp, texts_ties, bytes_decides, options_total}
-use Rattle.std.specs.Option.{option_cmp}
-use Rattle.std.specs.Ordering.{nat_cmp, is_eq, ordering_then}
-use Rattle.std.specs.Str.{bytes_eq}
-use Rattle.std.proofs.lemmas.Cmp.{nat_cmp_total, nat_list_cmp_total, on_total, then_total, tied_itself}
+use Rattle.std.proofs.{Common.{◌≡◌, ℕ, true, List, sym, ap, ◌∙◌}, lemmas.Cmp.{nat_cmp_total, nat_list_cmp_total}}
+use Rattle.std.{proofs.lemmas.Cmp.{on_total, then_total, tied_itself}, specs.declared.cmp.Ordering.Ordering}
+use Rattle.std.specs.{declared.cmp.Ordering.TheVariants.{Less, Equal, Greater}, Cmp.IsTotalOrder}
+use Rattle.std.specs.{Cmp.Lexicographic.{slice_cmp, texts_ties, bytes_decides, options_total}, Option.option_cmp}
+use Rattle.std.specs.{Ordering.{nat_cmp, is_eq, ordering_then}, Str.bytes_eq}
 use Rattle.dir_values.specs.Versions.{Version, version_order, named_version, named_order}
 
 -- texts that tie by their bytes are one

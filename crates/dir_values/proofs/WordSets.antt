@@ -1,19 +1,10 @@
 -- The keys of a tree of borrowed words, as a set of words.
-use Rattle.std.proofs.Common.{◌≡◌, ℕ, Bool, List, [], ◌∷◌, refl, sym, ap, ap₂, ◌∙◌}
-use Rattle.std.specs.Prelude.{if◌then◌else◌, ◌||◌}
-use Rattle.std.specs.Borrow.{Bor}
-use Rattle.std.specs.BTreeSet.{insert_key}
-use Rattle.std.specs.BTreeMap.{is_at}
-use Rattle.std.specs.List.{list_any}
-use Rattle.std.specs.Str.{bytes_eq}
-use Rattle.std.specs.Cmp.Lexicographic.{slice_cmp, texts_ties}
-use Rattle.std.specs.declared.cmp.Ordering.{Ordering}
-use Rattle.std.specs.declared.cmp.Ordering.TheVariants.{Less, Equal, Greater}
-use Rattle.std.specs.Ordering.{nat_cmp, ordering_reverse, is_eq, match_ordering}
-use Rattle.std.proofs.lemmas.Cmp.{nat_list_cmp_total}
-use Rattle.dir_values.specs.Digests.{is_less}
-use Rattle.dir_values.specs.FlagSets.{with_flag, has_flag}
-use Rattle.dir_values.specs.WordSets.{words_in}
+use Rattle.std.proofs.{Common.{◌≡◌, ℕ, Bool, List, [], ◌∷◌, refl, sym, ap, ap₂, ◌∙◌}, lemmas.Cmp.nat_list_cmp_total}
+use Rattle.std.specs.{Prelude.{if◌then◌else◌, ◌||◌}, Borrow.Bor, BTreeSet.insert_key, BTreeMap.is_at, List.list_any}
+use Rattle.std.specs.{Str.bytes_eq, Cmp.Lexicographic.{slice_cmp, texts_ties}, declared.cmp.Ordering.Ordering}
+use Rattle.std.specs.{declared.cmp.Ordering.TheVariants.{Less, Equal, Greater}, Ordering.{nat_cmp, ordering_reverse}}
+use Rattle.std.specs.Ordering.{is_eq, match_ordering}
+use Rattle.dir_values.specs.{Digests.is_less, FlagSets.{with_flag, has_flag}, WordSets.words_in}
 
 -- the order of borrowed words
 abbrev pub borrowed_order : Bor (List ℕ) → Bor (List ℕ) → Ordering

@@ -1,16 +1,10 @@
 -- Digests of fixed length: what their texts spell, how they are written, and their order.
-use Rattle.std.specs.Prelude.{ℕ, Bool, true, false, List, Option}
-use Rattle.std.specs.Option.{option_map}
-use Rattle.std.specs.declared.cmp.Ordering.{Ordering}
-use Rattle.std.specs.declared.cmp.Ordering.TheVariants.{Less, Equal, Greater}
-use Rattle.std.specs.Ordering.{nat_cmp}
-use Rattle.std.specs.Cmp.Lexicographic.{slice_cmp}
-use Rattle.std.specs.Str.{bytes_eq}
+use Rattle.std.specs.{Prelude.{ℕ, Bool, true, false, List, Option}, Option.option_map, declared.cmp.Ordering.Ordering}
+use Rattle.std.specs.{declared.cmp.Ordering.TheVariants.{Less, Equal, Greater}, Ordering.nat_cmp}
+use Rattle.std.specs.{Cmp.Lexicographic.slice_cmp, Str.bytes_eq}
 use Rattle.dir_bytes.specs.Fields as fields
 use Rattle.dir_bytes.specs.FieldTexts.{hex_text, base64_text}
-use Rattle.dir_values.specs.declared.digest.Fingerprint.{Fingerprint}
-use Rattle.dir_values.specs.declared.digest.Digest1.{Digest1}
-use Rattle.dir_values.specs.declared.digest.Digest2.{Digest2}
+use Rattle.dir_values.specs.declared.digest.{Fingerprint.Fingerprint, Digest1.Digest1, Digest2.Digest2}
 
 -- the fingerprint that 40 hex digits spell, of either case
 abbrev pub fingerprint : List ℕ → Option Fingerprint
@@ -31,10 +25,6 @@ digest2 text = option_map (λ bytes. record { 0 = bytes }) (fields.base64 32 tex
 -- 40 hex digits, in upper case
 abbrev pub fingerprint_text : Fingerprint → List ℕ
 fingerprint_text value = hex_text value.0
-
--- the digest of a signing key as 40 hex digits, in upper case
-abbrev pub key_digest_text : Digest1 → List ℕ
-key_digest_text value = hex_text value.0
 
 -- 27 characters of base64, without `=`
 abbrev pub digest1_text : Digest1 → List ℕ

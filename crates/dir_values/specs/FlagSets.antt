@@ -1,14 +1,10 @@
 -- Sets of flags: a flag's name, the set that flags make, and its text.
 use Rattle.std.specs.Prelude.{◌≡◌, ℕ, ◌==◌, nat_le, Bool, true, ◌&&◌, ◌||◌, not, List, [], ◌∷◌, ◌++◌, length, AllPairs}
-use Rattle.std.specs.Prelude.{Option, Some, None, Result, Ok, Err, if◌then◌else◌}
-use Rattle.std.specs.List.{fold, list_all, list_any, join_with_byte}
-use Rattle.std.specs.Str.{bytes_eq}
-use Rattle.item_terms.specs.Bytes.{space, hyphen, underscore}
-use Rattle.item_terms.specs.Words.{is_letter_or_digit, words_of}
-use Rattle.dir_values.specs.Arguments.{Argument, arguments_at}
-use Rattle.dir_values.specs.Digests.{bytes_below}
-use Rattle.dir_values.specs.declared.refusal.ValueRefusal.{ValueRefusal}
-use Rattle.dir_values.specs.declared.refusal.ValueRefusal.TheVariants.{BadValue}
+use Rattle.std.specs.{Prelude.{Option, Some, None, Result, Ok, Err, if◌then◌else◌}, List.{fold, list_all, list_any}}
+use Rattle.std.specs.{List.join_with_byte, Str.bytes_eq}
+use Rattle.item_terms.specs.{Bytes.{space, hyphen, underscore}, Words.{is_letter_or_digit, words_of}}
+use Rattle.dir_values.specs.{Arguments.{Argument, arguments_at}, Digests.bytes_below}
+use Rattle.dir_values.specs.declared.refusal.ValueRefusal.{ValueRefusal, TheVariants.BadValue}
 
 -- a letter, a digit, `-` or `_`
 abbrev pub is_name_byte : ℕ → Bool

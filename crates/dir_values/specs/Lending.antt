@@ -1,14 +1,9 @@
 -- What the private functions of this crate say.
 use Rattle.std.specs.Prelude.{ℕ, ◌-◌, nat_le, Bool, true, false, not, List, [], ◌∷◌, ◌++◌, length, slice_get, decimal}
-use Rattle.std.specs.Prelude.{Option, Some, None, if◌then◌else◌}
-use Rattle.std.specs.Option.{option_map_or}
-use Rattle.std.specs.List.{list_all, prefix_len}
+use Rattle.std.specs.{Prelude.{Option, Some, None, if◌then◌else◌}, Option.option_map_or, List.{list_all, prefix_len}}
 use Rattle.std.specs.Str.{bytes_eq}
-use Rattle.item_terms.specs.Bytes.{space}
-use Rattle.item_terms.specs.Words.{is_blank}
-use Rattle.dir_values.specs.Digests.{bytes_below}
-use Rattle.dir_values.specs.FlagSets.{is_name_byte}
-use Rattle.dir_values.specs.declared.port_range.PortRange.{PortRange}
+use Rattle.item_terms.specs.{Bytes.space, Words.is_blank}
+use Rattle.dir_values.specs.{Digests.bytes_below, FlagSets.is_name_byte, declared.port_range.PortRange.PortRange}
 
 -- how many flags stand before the first that does not come before a flag
 abbrev pub place_of : List (List ℕ) → List ℕ → ℕ

@@ -1,10 +1,8 @@
 -- Names of relays and of algorithms (dir-spec, "Vote and consensus status document formats").
 use Rattle.std.specs.Prelude.{ℕ, nat_le, Bool, ◌&&◌, List, length, codes, Option, Some, None, if◌then◌else◌}
-use Rattle.std.specs.List.{list_all}
-use Rattle.std.specs.Str.{bytes_eq}
+use Rattle.std.specs.{List.list_all, Str.bytes_eq}
 use Rattle.item_terms.specs.Words.{is_letter_or_digit}
-use Rattle.dir_values.specs.declared.algorithm.Algorithm.{Algorithm}
-use Rattle.dir_values.specs.declared.algorithm.Algorithm.TheVariants.{Sha1, Sha256}
+use Rattle.dir_values.specs.declared.algorithm.Algorithm.{Algorithm, TheVariants.{Sha1, Sha256}}
 
 -- a nickname: 1 to 19 letters and digits
 abbrev pub is_nickname : List ℕ → Bool

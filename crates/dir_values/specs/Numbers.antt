@@ -1,9 +1,7 @@
 -- Numbers of given ranges, and lists of numbers (dir-spec, "Vote and consensus status document formats").
-use Rattle.std.specs.Prelude.{ℕ, is_none, List, map, unwrap_or, decimal, Option}
-use Rattle.std.specs.List.{find, join_with_byte}
+use Rattle.std.specs.{Prelude.{ℕ, is_none, List, map, unwrap_or, decimal, Option}, List.{find, join_with_byte}}
 use Rattle.std.specs.Option.{option_map}
-use Rattle.item_terms.specs.Bytes.{space}
-use Rattle.item_terms.specs.Words.{words_of}
+use Rattle.item_terms.specs.{Bytes.space, Words.words_of}
 use Rattle.dir_bytes.specs.Fields.{number}
 use Rattle.dir_values.specs.Arguments.{Argument}
 

@@ -1,16 +1,12 @@
 -- Ranges of ports and summaries of ports: what their texts spell, how they are written, and which ports they accept
 -- (dir-spec, "Server descriptor format", the `p` line and `ipv6-policy`).
 use Rattle.std.specs.Prelude.{◌≡◌, IsTrue, ℕ, ◌+◌, ◌==◌, nat_le, Bool, true, false, not, ◌&&◌, List, [], ◌∷◌, ◌++◌}
-use Rattle.std.specs.Prelude.{length, map, codes}
-use Rattle.std.specs.Prelude.{Option, Some, None, option_and_then, Result, Ok, Err, if◌then◌else◌, decimal}
-use Rattle.std.specs.Option.{option_map}
-use Rattle.std.specs.List.{list_any, before_first, after_first, slice_split}
+use Rattle.std.specs.Prelude.{length, map, codes, Option, Some, None, option_and_then, Result, Ok, Err, if◌then◌else◌}
+use Rattle.std.specs.{Prelude.decimal, Option.option_map, List.{list_any, before_first, after_first, slice_split}}
 use Rattle.std.specs.Str.{bytes_eq}
 use Rattle.item_terms.specs.Bytes.{space, comma, hyphen}
-use Rattle.dir_values.specs.Arguments.{Argument, arguments_at}
-use Rattle.dir_values.specs.Numbers.{port_of}
-use Rattle.dir_values.specs.declared.port_range.PortRange.{PortRange}
-use Rattle.dir_values.specs.declared.refusal.ValueRefusal.{ValueRefusal}
+use Rattle.dir_values.specs.{Arguments.{Argument, arguments_at}, Numbers.port_of}
+use Rattle.dir_values.specs.declared.{port_range.PortRange.PortRange, refusal.ValueRefusal.ValueRefusal}
 use Rattle.dir_values.specs.declared.refusal.ValueRefusal.TheVariants.{BadValue}
 
 -- which ports are accepted: those of some ranges, or all others

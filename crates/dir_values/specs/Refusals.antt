@@ -1,7 +1,6 @@
 -- What a reader of values answers.
 use Rattle.std.specs.Prelude.{◌≡◌, Option, Some, None, Result, Ok, Err}
-use Rattle.dir_values.specs.declared.refusal.ValueRefusal.{ValueRefusal}
-use Rattle.dir_values.specs.declared.refusal.ValueRefusal.TheVariants.{BadValue, Memory}
+use Rattle.dir_values.specs.declared.refusal.ValueRefusal.{ValueRefusal, TheVariants.{BadValue, Memory}}
 
 -- the value, or the refusal of a text that spells none: its first element is wrong
 abbrev pub or_bad_value : {A : Type 0} → Option A → Result A ValueRefusal

@@ -1,9 +1,6 @@
 -- What the next argument of a text is.
-use Rattle.std.specs.Prelude.{◌≡◌, List, [], ◌∷◌}
-use Rattle.std.specs.declared.option.Option.{Option}
-use Rattle.std.specs.declared.option.Option.TheVariants.{Some, None}
-use Rattle.dir_values.specs.Arguments.{Argument}
-use Rattle.dir_values.specs.declared.arguments.Argument.{Argument as TextAt}
+use Rattle.std.specs.{Prelude.{◌≡◌, List, [], ◌∷◌}, declared.option.Option.{Option, TheVariants.{Some, None}}}
+use Rattle.dir_values.specs.{Arguments.Argument, declared.arguments.Argument.Argument as TextAt}
 
 -- an argument as a contract sees it
 abbrev pub argument_of : TextAt → Argument

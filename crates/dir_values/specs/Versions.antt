@@ -1,14 +1,9 @@
 -- Versions of Tor (version-spec), and the order of `v` values.
-use Rattle.std.specs.Prelude.{ℕ, ◌==◌, nat_le, Bool, ◌&&◌, ◌||◌, List, [], length, take, drop, codes}
-use Rattle.std.specs.Prelude.{Option, Some, None, option_map, option_and_then, if◌then◌else◌}
-use Rattle.std.specs.List.{list_all, list_any, before_first, after_first}
-use Rattle.std.specs.Option.{option_cmp}
-use Rattle.std.specs.Str.{bytes_eq}
-use Rattle.std.specs.declared.cmp.Ordering.{Ordering}
-use Rattle.std.specs.Ordering.{nat_cmp, ordering_then}
-use Rattle.std.specs.Cmp.Lexicographic.{slice_cmp}
-use Rattle.item_terms.specs.Bytes.{hyphen}
-use Rattle.item_terms.specs.Words.{is_letter_or_digit}
+use Rattle.std.specs.Prelude.{ℕ, ◌==◌, nat_le, Bool, ◌&&◌, ◌||◌, List, [], length, take, drop, codes, Option, Some}
+use Rattle.std.specs.{Prelude.{None, option_map, option_and_then, if◌then◌else◌}, List.{list_all, list_any}}
+use Rattle.std.specs.{List.{before_first, after_first}, Option.option_cmp, Str.bytes_eq, declared.cmp.Ordering.Ordering}
+use Rattle.std.specs.{Ordering.{nat_cmp, ordering_then}, Cmp.Lexicographic.slice_cmp}
+use Rattle.item_terms.specs.{Bytes.hyphen, Words.is_letter_or_digit}
 use Rattle.dir_values.specs.Numbers.{number_of}
 
 -- what stands between the numbers of a version

@@ -1,7 +1,5 @@
 -- Words that are borrowed from where they stand.
-use Rattle.std.specs.Prelude.{◌≡◌, ℕ, List, map, take}
-use Rattle.std.specs.Borrow.{Bor}
-use Rattle.std.specs.List.{fold}
+use Rattle.std.specs.{Prelude.{◌≡◌, ℕ, List, map, take}, Borrow.Bor, List.fold}
 use Rattle.dir_values.specs.FlagSets.{with_flag}
 
 -- the words that are borrowed

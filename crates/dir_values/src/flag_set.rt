@@ -1,10 +1,9 @@
 // Sets of flags.
-ghost use Rattle.std.specs.Prelude.{◌≡◌, ◌==◌, ◌+◌, ◌<◌, ◌≤◌, ◌^◌, ◌++◌, [], Some, IsOk, OnOk, OnErr, IfOk, length, slice_get, vec_len, vec_capacity, take};
-ghost use Rattle.std.specs.List.{fold};
+ghost use Rattle.std.specs.Prelude.{◌≡◌, ◌==◌, ◌+◌, ◌<◌, ◌≤◌, ◌^◌, ◌++◌, [], Some, IsOk, OnOk, OnErr, IfOk, length};
+ghost use Rattle.std.specs.{Prelude.{slice_get, vec_len, vec_capacity, take}, List.fold};
 ghost use Rattle.dir_values.specs.FlagSets as flag_sets;
 ghost use Rattle.dir_values.specs.Lending as lending;
-ghost use Rattle.dir_values.specs.Arguments.{texts_of};
-ghost use Rattle.dir_values.specs.Refusals.{Reads};
+ghost use Rattle.dir_values.specs.{Arguments.texts_of, Refusals.Reads};
 ghost use Rattle.item_terms.specs.Words.{words_of};
 
 use crate::arguments::Arguments;

@@ -1,6 +1,5 @@
 // Nicknames of relays and authorities.
-ghost use Rattle.std.specs.Prelude.{◌≡◌};
-ghost use Rattle.std.specs.List.{list_all};
+ghost use Rattle.std.specs.{Prelude.◌≡◌, List.list_all};
 ghost use Rattle.item_terms.specs.Words.{is_letter_or_digit};
 ghost use Rattle.dir_values.specs.Names as names;
 

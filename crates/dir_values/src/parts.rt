@@ -1,6 +1,6 @@
 // The parts of a text before and after the first of some byte.
-ghost use Rattle.std.specs.Prelude.{◌≡◌, ◌==◌, ◌<◌, ◌≤◌, length};
-ghost use Rattle.std.specs.List.{position_or_len, before_first, after_first, list_any};
+ghost use Rattle.std.specs.{Prelude.{◌≡◌, ◌==◌, ◌<◌, ◌≤◌, length}, List.{position_or_len, before_first, after_first}};
+ghost use Rattle.std.specs.List.{list_any};
 
 /// Whether a byte stands in a text.
 pub fn has(text: &[u8], byte: u8) -> bool

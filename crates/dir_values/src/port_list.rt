@@ -1,5 +1,6 @@
 // Lists of ranges of ports.
-ghost use Rattle.std.specs.Prelude.{◌≡◌, ◌+◌, ◌≤◌, ◌++◌, IsTrue, IfOk, IfSome, IsOk, OnOk, OnErr, length, take, vec_len, vec_capacity, option_map};
+ghost use Rattle.std.specs.Prelude.{◌≡◌, ◌+◌, ◌≤◌, ◌++◌, IsTrue, IfOk, IfSome, IsOk, OnOk, OnErr, length, take};
+ghost use Rattle.std.specs.Prelude.{vec_len, vec_capacity, option_map};
 ghost use Rattle.dir_values.specs.Lending as lending;
 ghost use Rattle.dir_values.specs.Ports as ports;
 ghost use Rattle.item_terms.specs.Bytes as bytes;

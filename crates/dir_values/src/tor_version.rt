@@ -1,7 +1,6 @@
 // Versions of Tor.
 ghost use Rattle.std.specs.Prelude.{◌≡◌, ◌+◌, ◌≤◌, ◌++◌, IsOk, OnOk, OnErr, length, option_map, vec_len, vec_capacity};
-ghost use Rattle.std.specs.List.{list_all};
-ghost use Rattle.std.specs.Option.{option_cmp};
+ghost use Rattle.std.specs.{List.list_all, Option.option_cmp};
 ghost use Rattle.dir_values.specs.Refusals.{or_bad_value};
 ghost use Rattle.dir_values.specs.Versions as versions;
 

@@ -1,6 +1,5 @@
 // Sets of words that stand elsewhere.
-ghost use Rattle.std.specs.Prelude.{◌≡◌, [], not, IfOk, OnOk, OnErr};
-ghost use Rattle.std.specs.List.{fold};
+ghost use Rattle.std.specs.{Prelude.{◌≡◌, [], not, IfOk, OnOk, OnErr}, List.fold};
 ghost use Rattle.dir_values.specs.FlagSets as flag_sets;
 ghost use Rattle.dir_values.specs.WordSets.{HasFirst};
 
@@ -17,8 +16,7 @@ pub struct WordSet<'a> {
 
 impl<'a> Model for WordSet<'a> {
     ghost use Rattle.std.specs.Prelude.{List, ℕ};
-    ghost use Rattle.dir_values.specs.FlagSets.{Ascend};
-    ghost use Rattle.dir_values.specs.WordSets.{words_in};
+    ghost use Rattle.dir_values.specs.{FlagSets.Ascend, WordSets.words_in};
 
     ghost Value = { List (List ℕ) };
 

@@ -9,8 +9,10 @@ use key_port::{ServiceKeys, Signer, TestKeys, UnixDial, Verifier};
 use std::alloc::{AllocError, Global};
 use std::net::{Net, TcpListener};
 use std::process::ExitCode;
+use std::rt::Clock;
 use std::sync::{OnceLock, Wait};
 use std::thread::Threads;
+use std::time::Duration;
 use std::{env, io};
 use tcp_edge::{TcpGate, TcpLink};
 
@@ -19,6 +21,11 @@ const KEY_SERVICE: &str = "/run/dirauth-keys";
 
 /// How many workers there are, each with its verifier and its clock.
 const WORKERS: usize = 4;
+
+/// How long it is from the end of the duties to their next turn.
+fn period() -> Duration {
+    Duration::from_secs(1)
+}
 
 /// The words behind the program's name.
 fn words(rt: &HostRuntime) -> io::Result<Vec<String>> {
@@ -59,26 +66,26 @@ fn test_signer(alloc: Global) -> TestKeys {
 }
 
 /// The key service, for one worker or for signing. It is dialed when it is asked first.
-fn one_service<'a, N: Net>(
+fn one_service<'a, R: Net + Clock>(
     alloc: Global,
-    net: &'a N,
-) -> Result<ServiceKeys<UnixDial<&'a N>>, AllocError> {
+    runtime: &'a R,
+) -> Result<ServiceKeys<UnixDial<&'a R>>, AllocError> {
     let path = String::from_str(alloc, KEY_SERVICE)?;
-    Ok(ServiceKeys::new(UnixDial::new(net, path)))
+    Ok(ServiceKeys::new(UnixDial::new(runtime, path)))
 }
 
 /// The key service, for each worker.
-fn service_keys<'a, N: Net>(
+fn service_keys<'a, R: Net + Clock>(
     alloc: Global,
-    net: &'a N,
-) -> Result<Vec<ServiceKeys<UnixDial<&'a N>>>, AllocError>
+    runtime: &'a R,
+) -> Result<Vec<ServiceKeys<UnixDial<&'a R>>>, AllocError>
     ensures { IfOk result (λ verifiers. vec_len verifiers ≡ 4) }
 {
     let mut verifiers = Vec::new(alloc);
-    verifiers.push(one_service(alloc, net)?)?;
-    verifiers.push(one_service(alloc, net)?)?;
-    verifiers.push(one_service(alloc, net)?)?;
-    verifiers.push(one_service(alloc, net)?)?;
+    verifiers.push(one_service(alloc, runtime)?)?;
+    verifiers.push(one_service(alloc, runtime)?)?;
+    verifiers.push(one_service(alloc, runtime)?)?;
+    verifiers.push(one_service(alloc, runtime)?)?;
     Ok(verifiers)
 }
 
@@ -91,10 +98,10 @@ fn gates<'a>(
     ensures { IfOk result (λ gates. vec_len gates ≡ 4) }
 {
     let mut gates = Vec::new(rt.alloc());
-    gates.push(TcpGate::idling(rt.alloc(), rt, listener))?;
-    gates.push(TcpGate::serving(rt.alloc(), rt, listener))?;
-    gates.push(TcpGate::serving(rt.alloc(), rt, listener))?;
-    gates.push(TcpGate::serving(rt.alloc(), rt, listener))?;
+    gates.push(TcpGate::idling(rt.alloc(), rt, listener, period()))?;
+    gates.push(TcpGate::serving(rt.alloc(), rt, listener, period()))?;
+    gates.push(TcpGate::serving(rt.alloc(), rt, listener, period()))?;
+    gates.push(TcpGate::serving(rt.alloc(), rt, listener, period()))?;
     Ok(gates)
 }
 

@@ -1,13 +1,9 @@
 -- What is accepted symbol by symbol as base64 is an encoding.
-use Rattle.std.proofs.Common.{◌≡◌, ℕ, zero, suc, ◌+◌, ◌*◌, ◌/◌, ◌%◌, ◌<◌, Bool, true, false, cond, List, [], ◌∷◌, ◌++◌, refl, sym, ap, ◌∙◌, arith, slice_index}
-use Rattle.std.specs.Prelude.{◌==◌, nat_le, not, ◌&&◌, ◌||◌}
-use Rattle.std.proofs.lemmas.Bool.{and_parts, eqb-true, leb-true, le-leb, not-true}
-use Rattle.base64.specs.GeneralPurpose.{IsBytes, encode_of}
-use Rattle.base64.specs.Engines.{standard}
-use Rattle.base64.specs.Rfc4648.{encode_symbols}
-use Rattle.base64.specs.Tables.{all_below}
-use Rattle.base64.proofs.Tables.{all_below_at}
-use Rattle.base64.proofs.EngineFacts.{encode_of-nil, encode_of-append}
+use Rattle.std.proofs.Common.{◌≡◌, ℕ, zero, suc, ◌+◌, ◌*◌, ◌/◌, ◌%◌, ◌<◌, Bool, true, false, cond, List, [], ◌∷◌, ◌++◌}
+use Rattle.std.proofs.{Common.{refl, sym, ap, ◌∙◌, arith, slice_index}, lemmas.Bool.{and_parts, eqb-true, leb-true}}
+use Rattle.std.{proofs.lemmas.Bool.{le-leb, not-true}, specs.Prelude.{◌==◌, nat_le, not, ◌&&◌, ◌||◌}}
+use Rattle.base64.specs.{GeneralPurpose.{IsBytes, encode_of}, Engines.standard, Rfc4648.encode_symbols}
+use Rattle.base64.{specs.Tables.all_below, proofs.{Tables.all_below_at, EngineFacts.{encode_of-nil, encode_of-append}}}
 use Rattle.dirdoc_grammar.specs.declared.base64_text.Group.TheVariants.{Start, One, Two, Three, PaddedOnce, Closed}
 use Rattle.dirdoc_grammar.specs.Groups.{symbol, may_grow, grown_group, may_end, goes_on}
 

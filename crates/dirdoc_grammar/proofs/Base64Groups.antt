@@ -1,17 +1,14 @@
 -- Reading base64 symbol by symbol tells whether it decodes.
-use Rattle.std.proofs.Common.{◌≡◌, ℕ, suc, ◌+◌, ◌*◌, ◌/◌, ◌%◌, ◌<◌, Bool, true, false, cond, List, [], ◌∷◌, Result, Ok, Err, refl, sym, ap, ◌∙◌, arith}
-use Rattle.std.specs.Prelude.{◌==◌, nat_le, ◌&&◌, is_ok}
-use Rattle.std.proofs.lemmas.Bool.{eq-eqb}
-use Rattle.base64.specs.declared.decode.DecodeError.{DecodeError}
-use Rattle.base64.specs.declared.decode.DecodeAllocError.{DecodeAllocError}
+use Rattle.std.proofs.Common.{◌≡◌, ℕ, suc, ◌+◌, ◌*◌, ◌/◌, ◌%◌, ◌<◌, Bool, true, false, cond, List, [], ◌∷◌, Result, Ok}
+use Rattle.std.{proofs.{Common.{Err, refl, sym, ap, ◌∙◌, arith}, lemmas.Bool.eq-eqb}, specs.Prelude.{◌==◌, nat_le}}
+use Rattle.std.specs.Prelude.{◌&&◌, is_ok}
+use Rattle.base64.specs.declared.decode.{DecodeError.DecodeError, DecodeAllocError.DecodeAllocError}
 use Rattle.base64.specs.declared.decode.DecodeAllocError.TheVariants.{DecodeError as Failed, OutOfMemory}
-use Rattle.base64.specs.GeneralPurpose.{IsBytes, IsDecodeFailure, decode_of, encode_of}
-use Rattle.base64.specs.Engines.{standard}
+use Rattle.base64.specs.{GeneralPurpose.{IsBytes, IsDecodeFailure, decode_of, encode_of}, Engines.standard}
 use Rattle.base64.proofs.EngineFacts.{decode_of-encode_of, decode_of_strict, encode_of-nil}
 use Rattle.item_terms.specs.Base64Text.{is_inside, joined_text, is_base64}
 use Rattle.dirdoc_grammar.specs.declared.base64_text.Group.TheVariants.{Start, One, Two, Three, PaddedOnce, Closed}
-use Rattle.dirdoc_grammar.specs.Groups.{symbol, goes_on}
-use Rattle.dirdoc_grammar.proofs.DecodedBytes.{decoded_is_bytes}
+use Rattle.dirdoc_grammar.{specs.Groups.{symbol, goes_on}, proofs.DecodedBytes.decoded_is_bytes}
 use Rattle.dirdoc_grammar.proofs.Base64Encodings.{spelled, symbol-spelled, no_padding, IsSymbol, spelled_is_symbol}
 use Rattle.dirdoc_grammar.proofs.Base64Encodings.{two_bytes, one_byte, more_bytes, bytes_cons, bytes_nil}
 use Rattle.dirdoc_grammar.proofs.Base64Encodings.{accepted_is_encoding}

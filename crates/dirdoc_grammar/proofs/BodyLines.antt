@@ -1,12 +1,11 @@
 -- The lines of an object that is written.
-use Rattle.std.proofs.Common.{◌≡◌, ℕ, zero, suc, ◌+◌, ◌-◌, ◌*◌, ◌/◌, ◌%◌, ◌<◌, ◌≤◌, Bool, true, false, cond, List, [], ◌∷◌, ◌++◌, length, take, drop, Result, Ok, Err, refl, sym, ap, ◌∙◌, append_assoc, arith, inl, inr, length-take}
-use Rattle.std.specs.Prelude.{◌==◌, min, replicate, OnOk}
-use Rattle.std.proofs.lemmas.Bool.{cases_lt, eq-eqb, eqb-false, eqb-true, ne_eqb}
-use Rattle.std.proofs.lemmas.List.{append-nil, drop_all, drop_at, length-append, length-replicate, take-append-drop, take_all, take_at}
-use Rattle.base64.specs.Engines.{standard}
-use Rattle.base64.specs.Rfc4648.{encode_symbols, padding_len}
-use Rattle.base64.proofs.EngineFacts.{encode_of-append, encode_of-nil}
-use Rattle.base64.proofs.RoundTrip.{length-encode_symbols}
+use Rattle.std.proofs.Common.{◌≡◌, ℕ, zero, suc, ◌+◌, ◌-◌, ◌*◌, ◌/◌, ◌%◌, ◌<◌, ◌≤◌, Bool, true, false, cond, List, []}
+use Rattle.std.proofs.Common.{◌∷◌, ◌++◌, length, take, drop, Result, Ok, Err, refl, sym, ap, ◌∙◌, append_assoc, arith}
+use Rattle.std.proofs.{Common.{inl, inr, length-take}, lemmas.Bool.{cases_lt, eq-eqb, eqb-false, eqb-true, ne_eqb}}
+use Rattle.std.proofs.lemmas.List.{append-nil, drop_all, drop_at, length-append, length-replicate, take-append-drop}
+use Rattle.std.{proofs.lemmas.List.{take_all, take_at}, specs.Prelude.{◌==◌, min, replicate, OnOk}}
+use Rattle.base64.{specs.{Engines.standard, Rfc4648.{encode_symbols, padding_len}}, proofs.EngineFacts.encode_of-append}
+use Rattle.base64.proofs.{EngineFacts.encode_of-nil, RoundTrip.length-encode_symbols}
 use Rattle.dirdoc_grammar.specs.Bodies.{base64_of, body_text, in_lines}
 
 -- ---- base64 with padding

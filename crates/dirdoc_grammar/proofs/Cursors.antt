@@ -1,23 +1,14 @@
 -- What a reader knows of bytes that go on.
-use Rattle.std.proofs.Common.{◌≡◌, ℕ, ◌+◌, ◌<◌, ◌≤◌, false, List, ◌++◌, length, drop, Option, refl, sym, ap, subst, ◌∙◌, append_assoc, inl, inr, arith}
-use Rattle.std.proofs.lemmas.Bool.{cases_lt, lt-ltb, false≢true}
+use Rattle.std.proofs.Common.{◌≡◌, ℕ, ◌+◌, ◌<◌, ◌≤◌, false, List, ◌++◌, length, drop, Option, refl, sym, ap, subst, ◌∙◌}
+use Rattle.std.proofs.{Common.{append_assoc, inl, inr, arith}, lemmas.Bool.{cases_lt, lt-ltb, false≢true}}
 use Rattle.std.proofs.lemmas.List.{length-append, length-drop, drop-append-le}
-use Rattle.item_terms.specs.Words.{begins_dash}
+use Rattle.item_terms.specs.{Words.begins_dash, Items.{Open, nothing, keyword_line, object_lines}, Steps.with_line}
 use Rattle.item_terms.specs.Items as model
-use Rattle.item_terms.specs.Items.{Open, nothing, keyword_line, object_lines}
-use Rattle.item_terms.specs.Steps.{with_line}
-use Rattle.dirdoc_grammar.specs.declared.cursor.Cursor.{Cursor}
-use Rattle.dirdoc_grammar.specs.declared.item.Item.{Item}
-use Rattle.dirdoc_grammar.specs.declared.front.Stop.{Stop}
-use Rattle.dirdoc_grammar.specs.declared.front.Phase.{Phase}
-use Rattle.dirdoc_grammar.specs.declared.front.Phase.TheVariants.{Object}
-use Rattle.dirdoc_grammar.specs.declared.front.Found.TheVariants.{Open as More}
-use Rattle.dirdoc_grammar.specs.Reading.{first_line_len, from_place, IsOf, Stands, Finds}
-use Rattle.dirdoc_grammar.specs.Cursors.{NoNl, IsOver, IsAt, Past, behind}
-use Rattle.dirdoc_grammar.proofs.FirstLine.{ends_inside}
-use Rattle.dirdoc_grammar.proofs.ObjectSteps.{FoundHere, object_goes_on, found_more}
-use Rattle.dirdoc_grammar.proofs.Endings.{over_of, cut_open}
-use Rattle.dirdoc_grammar.proofs.Quiet.{grows}
+use Rattle.dirdoc_grammar.specs.declared.{cursor.Cursor.Cursor, item.Item.Item, front.{Stop.Stop, Phase.Phase}}
+use Rattle.dirdoc_grammar.specs.declared.front.{Phase.TheVariants.Object, Found.TheVariants.Open as More}
+use Rattle.dirdoc_grammar.specs.{Reading.{first_line_len, from_place, IsOf, Stands, Finds}, Cursors.{NoNl, IsOver}}
+use Rattle.dirdoc_grammar.{specs.Cursors.{IsAt, Past, behind}, proofs.{FirstLine.ends_inside, ObjectSteps.FoundHere}}
+use Rattle.dirdoc_grammar.proofs.{ObjectSteps.{object_goes_on, found_more}, Endings.{over_of, cut_open}, Quiet.grows}
 
 -- ---- a line of an object more
 

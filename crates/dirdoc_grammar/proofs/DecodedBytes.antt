@@ -1,16 +1,13 @@
 -- What base64 decodes to is bytes.
-use Rattle.std.proofs.Common.{◌≡◌, ℕ, zero, suc, ◌+◌, ◌*◌, ◌/◌, ◌%◌, ◌<◌, ◌≤◌, Bool, true, false, cond, List, [], ◌∷◌, ◌++◌, length, take, drop, Option, Some, None, Ok, Err, refl, ap, arith, inl, inr, slice_index}
-use Rattle.std.specs.Prelude.{◌==◌}
-use Rattle.std.proofs.lemmas.List.{length-drop}
-use Rattle.base64.specs.declared.decode.DecodeError.{DecodeError}
-use Rattle.base64.specs.declared.engine.DecodePaddingMode.{DecodePaddingMode}
-use Rattle.base64.specs.declared.engine.general_purpose.GeneralPurpose.{GeneralPurpose}
-use Rattle.base64.specs.GeneralPurpose.{IsBytes, decode_of}
-use Rattle.base64.specs.Decode.{decode_group, or_else, symbol_error, group_error, group_bytes, groups_error, groups_bytes, groups_before_last, no_leftover, scan_last, scan_error, scan_bytes, decode_outcome, IsDecodeTable}
-use Rattle.base64.specs.Tables.{is_inverse}
-use Rattle.base64.proofs.Decoding.{IsLeftover}
-use Rattle.base64.proofs.Canonical.{IsScanned-scan}
-use Rattle.base64.proofs.EngineFacts.{decode_of_bytes}
+use Rattle.std.proofs.Common.{◌≡◌, ℕ, zero, suc, ◌+◌, ◌*◌, ◌/◌, ◌%◌, ◌<◌, ◌≤◌, Bool, true, false, cond, List, [], ◌∷◌}
+use Rattle.std.proofs.Common.{◌++◌, length, take, drop, Option, Some, None, Ok, Err, refl, ap, arith, inl, inr}
+use Rattle.std.{proofs.{Common.slice_index, lemmas.List.length-drop}, specs.Prelude.◌==◌}
+use Rattle.base64.specs.declared.{decode.DecodeError.DecodeError, engine.DecodePaddingMode.DecodePaddingMode}
+use Rattle.base64.specs.{declared.engine.general_purpose.GeneralPurpose.GeneralPurpose, GeneralPurpose.IsBytes}
+use Rattle.base64.specs.{GeneralPurpose.decode_of, Decode.{decode_group, or_else, symbol_error, group_error}}
+use Rattle.base64.specs.Decode.{group_bytes, groups_error, groups_bytes, groups_before_last, no_leftover, scan_last}
+use Rattle.base64.specs.{Decode.{scan_error, scan_bytes, decode_outcome, IsDecodeTable}, Tables.is_inverse}
+use Rattle.base64.proofs.{Decoding.IsLeftover, Canonical.IsScanned-scan, EngineFacts.decode_of_bytes}
 use Rattle.base64.proofs.Tables.{are_tables_inverse, IsDecodeTable_from}
 
 -- ---- lists of bytes

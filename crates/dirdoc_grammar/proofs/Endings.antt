@@ -1,28 +1,21 @@
 -- What bytes hold with which a reading stops, where no more follow, and where one more does.
-use Rattle.std.proofs.Common.{◌≡◌, ℕ, ◌+◌, ◌-◌, ◌<◌, ◌≤◌, Bool, true, false, cond, eqb, List, [], ◌∷◌, ◌++◌, length, drop, Option, Some, None, Result, Ok, Err, refl, sym, ap, subst, ◌∙◌, inl, inr, arith}
-use Rattle.std.specs.Prelude.{min, nat_lt, nat_le, ◌&&◌, ◌==◌}
-use Rattle.std.proofs.lemmas.Bool.{cases_lt, lt-leb, le-leb, lt-ltb, eq-eqb, ne_eqb, false≢true}
-use Rattle.std.proofs.lemmas.List.{append-nil, length-append, length-drop, drop_all, drop-append-le}
-use Rattle.item_terms.specs.declared.fault.DocReason.TheVariants.{Unterminated, LineTooLong, DocumentTooLong, ObjectTooLong}
-use Rattle.item_terms.specs.declared.fault.DocFault.{DocFault}
-use Rattle.item_terms.specs.Lines.{Line, size}
-use Rattle.item_terms.specs.Words.{begins_dash, nul_in}
-use Rattle.item_terms.specs.Faults.{at, or_else, nul_fault, line_fault, object_line_fault, max_line, max_object}
+use Rattle.std.proofs.Common.{◌≡◌, ℕ, ◌+◌, ◌-◌, ◌<◌, ◌≤◌, Bool, true, false, cond, eqb, List, [], ◌∷◌, ◌++◌, length}
+use Rattle.std.proofs.Common.{drop, Option, Some, None, Result, Ok, Err, refl, sym, ap, subst, ◌∙◌, inl, inr, arith}
+use Rattle.std.proofs.lemmas.{Bool.{cases_lt, lt-leb, le-leb, lt-ltb, eq-eqb, ne_eqb, false≢true}, List.append-nil}
+use Rattle.std.{proofs.lemmas.List.{length-append, length-drop, drop_all, drop-append-le}, specs.Prelude.{min, nat_lt}}
+use Rattle.std.specs.Prelude.{nat_le, ◌&&◌, ◌==◌}
+use Rattle.item_terms.specs.declared.fault.DocReason.TheVariants.{Unterminated, LineTooLong, DocumentTooLong}
+use Rattle.item_terms.specs.{declared.fault.{DocReason.TheVariants.ObjectTooLong, DocFault.DocFault}, Lines.Line}
+use Rattle.item_terms.specs.{Lines.size, Words.{begins_dash, nul_in}, Faults.{at, or_else, nul_fault, line_fault}}
+use Rattle.item_terms.specs.{Faults.{object_line_fault, max_line, max_object}, Items.{Open, nothing, keyword_line}}
+use Rattle.item_terms.specs.Items.{object_lines, also, failed_contents}
 use Rattle.item_terms.specs.Items as model
-use Rattle.item_terms.specs.Items.{Open, nothing, keyword_line, object_lines, also, failed_contents}
-use Rattle.dirdoc_grammar.specs.declared.item.Item.{Item}
-use Rattle.dirdoc_grammar.specs.declared.front.Phase.{Phase}
-use Rattle.dirdoc_grammar.specs.declared.front.Phase.TheVariants.{Between, Keyword, Object}
-use Rattle.dirdoc_grammar.specs.declared.front.Found.{Found}
-use Rattle.dirdoc_grammar.specs.declared.front.Found.TheVariants.{Whole, Fault, Open as More}
-use Rattle.dirdoc_grammar.specs.Seen.{seen_item}
+use Rattle.dirdoc_grammar.specs.declared.{item.Item.Item, front.Phase.{Phase, TheVariants.{Between, Keyword, Object}}}
+use Rattle.dirdoc_grammar.specs.{declared.front.Found.{Found, TheVariants.{Whole, Fault, Open as More}}, Seen.seen_item}
 use Rattle.dirdoc_grammar.specs.Reading.{first_line, from_place, IsOf, IsCut, Ends, Finds, LastOf, last_by, all_of}
-use Rattle.dirdoc_grammar.specs.Cursors.{IsOver}
-use Rattle.dirdoc_grammar.specs.Feeding.{first_of}
-use Rattle.dirdoc_grammar.proofs.FirstLine.{ends, line_after, line_grows}
-use Rattle.dirdoc_grammar.proofs.Fronts.{unended_len, cut_line, cut_object}
-use Rattle.dirdoc_grammar.proofs.LineSteps.{line_fails, begin_fails, first_dash, dash_more}
-use Rattle.dirdoc_grammar.proofs.ObjectSteps.{object_fails}
+use Rattle.dirdoc_grammar.{specs.{Cursors.IsOver, Feeding.first_of}, proofs.FirstLine.{ends, line_after, line_grows}}
+use Rattle.dirdoc_grammar.proofs.{Fronts.{unended_len, cut_line, cut_object}, LineSteps.{line_fails, begin_fails}}
+use Rattle.dirdoc_grammar.proofs.{LineSteps.{first_dash, dash_more}, ObjectSteps.object_fails}
 
 -- ---- where no more bytes follow
 

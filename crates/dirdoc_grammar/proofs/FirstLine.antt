@@ -1,14 +1,10 @@
 -- The lines of a text are its first line and the lines of what follows it.
-use Rattle.std.proofs.Common.{◌≡◌, ℕ, suc, ◌+◌, ◌<◌, ◌≤◌, Bool, true, false, cond, eqb, ltb, List, [], ◌∷◌, length, ◌-◌, take, drop, Option, None, Ok, Err, refl, sym, ap, ◌∙◌, arith}
-use Rattle.std.specs.Prelude.{not}
-use Rattle.std.proofs.Math.ListN.{drop_of_length-le}
-use Rattle.std.proofs.lemmas.Grind.{common_steps}
-use Rattle.std.proofs.lemmas.List.{length-drop, length-take, drop-drop}
-use Rattle.std.proofs.lemmas.Bool.{lt-ltb, ltb-true}
-use Rattle.item_terms.specs.declared.fault.DocFault.{DocFault}
-use Rattle.item_terms.specs.Lines.{Line, lines, onto, size}
-use Rattle.item_terms.specs.Steps.{Item, Open, Step, step}
-use Rattle.item_terms.specs.Items.{contents, contents_of, also, proceed, failed_contents, at_end}
+use Rattle.std.proofs.Common.{◌≡◌, ℕ, suc, ◌+◌, ◌<◌, ◌≤◌, Bool, true, false, cond, eqb, ltb, List, [], ◌∷◌, length, ◌-◌}
+use Rattle.std.proofs.Common.{take, drop, Option, None, Ok, Err, refl, sym, ap, ◌∙◌, arith}
+use Rattle.std.proofs.{Math.ListN.drop_of_length-le, lemmas.{Grind.common_steps, List.{length-drop, length-take}}}
+use Rattle.std.{proofs.lemmas.{List.drop-drop, Bool.{lt-ltb, ltb-true}}, specs.Prelude.not}
+use Rattle.item_terms.specs.{declared.fault.DocFault.DocFault, Lines.{Line, lines, onto, size}, Steps.{Item, Open}}
+use Rattle.item_terms.specs.{Steps.{Step, step}, Items.{contents, contents_of, also, proceed, failed_contents, at_end}}
 use Rattle.dirdoc_grammar.specs.Reading.{first_line_len, first_line, from_place}
 
 -- the first line of b and more, where it is known whether b is a NL

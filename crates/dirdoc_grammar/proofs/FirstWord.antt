@@ -1,8 +1,7 @@
 -- The words of a text are its first word and the words of what follows it.
-use Rattle.std.proofs.Common.{◌≡◌, ℕ, suc, ◌+◌, ◌-◌, ◌<◌, Bool, true, false, cond, List, [], ◌∷◌, length, take, drop, refl, sym, ap, subst, ◌∙◌, arith}
-use Rattle.std.specs.Prelude.{not, ◌==◌}
-use Rattle.std.proofs.lemmas.Bool.{eqb-true, eqb-false}
-use Rattle.std.specs.List.{prefix_len}
+use Rattle.std.proofs.Common.{◌≡◌, ℕ, suc, ◌+◌, ◌-◌, ◌<◌, Bool, true, false, cond, List, [], ◌∷◌, length, take, drop}
+use Rattle.std.proofs.{Common.{refl, sym, ap, subst, ◌∙◌, arith}, lemmas.Bool.{eqb-true, eqb-false}}
+use Rattle.std.specs.{Prelude.{not, ◌==◌}, List.prefix_len}
 use Rattle.item_terms.specs.Words.{is_blank, ends_or_blank, onto_word, words_of}
 use Rattle.dirdoc_grammar.proofs.FirstLine.{whole_rest}
 

@@ -1,16 +1,14 @@
 -- The first line of a text that goes on: one with its NL stays, and another grows; and so its faults.
-use Rattle.std.proofs.Common.{◌≡◌, ℕ, ◌+◌, ◌-◌, ◌<◌, ◌≤◌, ◌⊎◌, Bool, true, false, cond, eqb, ltb, List, [], ◌∷◌, ◌++◌, length, drop, Option, Some, None, refl, sym, ap, subst, ◌∙◌, inl, inr, arith}
-use Rattle.std.specs.Prelude.{min, nat_lt, nat_le, ◌&&◌}
-use Rattle.std.proofs.lemmas.Bool.{lt-ltb, le-ltb, le-leb, lt-leb, cases_lt, false≢true}
-use Rattle.std.proofs.lemmas.List.{length-take, drop-append-le}
-use Rattle.item_terms.specs.declared.fault.DocReason.{DocReason}
-use Rattle.item_terms.specs.declared.fault.DocReason.TheVariants.{Nul, Unterminated, LineTooLong, DocumentTooLong, ObjectTooLong}
-use Rattle.item_terms.specs.declared.fault.DocFault.{DocFault}
-use Rattle.item_terms.specs.Lines.{Line, size}
-use Rattle.item_terms.specs.Words.{nul_in}
-use Rattle.item_terms.specs.Faults.{at, or_else, too_long, unterminated_fault, nul_fault, line_fault, object_line_fault, max_line, max_object}
-use Rattle.dirdoc_grammar.specs.Reading.{first_line_len, first_line}
-use Rattle.dirdoc_grammar.proofs.FirstLine.{line_after, line_grows, with_byte}
+use Rattle.std.proofs.Common.{◌≡◌, ℕ, ◌+◌, ◌-◌, ◌<◌, ◌≤◌, ◌⊎◌, Bool, true, false, cond, eqb, ltb, List, [], ◌∷◌, ◌++◌}
+use Rattle.std.proofs.Common.{length, drop, Option, Some, None, refl, sym, ap, subst, ◌∙◌, inl, inr, arith}
+use Rattle.std.proofs.lemmas.{Bool.{lt-ltb, le-ltb, le-leb, lt-leb, cases_lt, false≢true}, List.length-take}
+use Rattle.std.{proofs.lemmas.List.drop-append-le, specs.Prelude.{min, nat_lt, nat_le, ◌&&◌}}
+use Rattle.item_terms.specs.declared.fault.DocReason.{DocReason, TheVariants.{Nul, Unterminated, LineTooLong}}
+use Rattle.item_terms.specs.declared.fault.{DocReason.TheVariants.{DocumentTooLong, ObjectTooLong}, DocFault.DocFault}
+use Rattle.item_terms.specs.{Lines.{Line, size}, Words.nul_in, Faults.{at, or_else, too_long, unterminated_fault}}
+use Rattle.item_terms.specs.Faults.{nul_fault, line_fault, object_line_fault, max_line, max_object}
+use Rattle.dirdoc_grammar.{specs.Reading.{first_line_len, first_line}, proofs.FirstLine.{line_after, line_grows}}
+use Rattle.dirdoc_grammar.proofs.FirstLine.{with_byte}
 
 -- ---- the line
 

@@ -1,19 +1,14 @@
 -- What a reader of bytes that go on gives.
-use Rattle.std.proofs.Common.{◌≡◌, ℕ, ◌-◌, ◌<◌, ◌≤◌, Bool, true, false, List, [], ◌++◌, length, drop, Option, Some, None, Ok, Err, refl, sym, ap, subst, ◌∙◌, arith}
-use Rattle.std.proofs.lemmas.List.{length-drop, drop-append-le, drop-drop, append-nil}
-use Rattle.item_terms.specs.declared.fault.DocFault.{DocFault}
+use Rattle.std.proofs.Common.{◌≡◌, ℕ, ◌-◌, ◌<◌, ◌≤◌, Bool, true, false, List, [], ◌++◌, length, drop, Option, Some}
+use Rattle.std.proofs.{Common.{None, Ok, Err, refl, sym, ap, subst, ◌∙◌, arith}, lemmas.List.length-drop}
+use Rattle.std.proofs.lemmas.List.{drop-append-le, drop-drop, append-nil}
+use Rattle.item_terms.specs.{declared.fault.DocFault.DocFault, Items.{Open, nothing, also, failed_contents}}
 use Rattle.item_terms.specs.Items as model
-use Rattle.item_terms.specs.Items.{Open, nothing, also, failed_contents}
-use Rattle.dirdoc_grammar.specs.declared.cursor.Cursor.{Cursor}
-use Rattle.dirdoc_grammar.specs.declared.item.Item.{Item}
+use Rattle.dirdoc_grammar.specs.declared.{cursor.Cursor.Cursor, item.Item.Item, front.Stop.Stop}
+use Rattle.dirdoc_grammar.specs.{declared.front.Found.TheVariants.Open as More, Seen.seen_item, Reading.from_place}
+use Rattle.dirdoc_grammar.specs.{Reading.{IsOf, Finds, LastOf}, Cursors.{IsOver, IsAt, behind, fed_by}}
+use Rattle.dirdoc_grammar.{specs.Feeding.{first_of, Takes, MayFollow}, proofs.Endings.{over_of, not_settled}}
 use Rattle.dirdoc_grammar.specs.declared.take.Take.TheVariants as take_
-use Rattle.dirdoc_grammar.specs.declared.front.Stop.{Stop}
-use Rattle.dirdoc_grammar.specs.declared.front.Found.TheVariants.{Open as More}
-use Rattle.dirdoc_grammar.specs.Seen.{seen_item}
-use Rattle.dirdoc_grammar.specs.Reading.{from_place, IsOf, Finds, LastOf}
-use Rattle.dirdoc_grammar.specs.Cursors.{IsOver, IsAt, behind, fed_by}
-use Rattle.dirdoc_grammar.specs.Feeding.{first_of, Takes, MayFollow}
-use Rattle.dirdoc_grammar.proofs.Endings.{over_of, not_settled}
 
 -- ---- what it gives
 

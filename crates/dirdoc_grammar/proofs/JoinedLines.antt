@@ -1,10 +1,10 @@
 -- The lines of an object without their NLs, one line after the other.
-use Rattle.std.proofs.Common.{◌≡◌, ℕ, zero, suc, ◌+◌, ◌<◌, Bool, true, false, cond, List, [], ◌∷◌, ◌++◌, length, ◌-◌, get_or, take, drop, Option, Some, None, refl, sym, ap, ◌∙◌, append_assoc, arith}
+use Rattle.std.proofs.Common.{◌≡◌, ℕ, zero, suc, ◌+◌, ◌<◌, Bool, true, false, cond, List, [], ◌∷◌, ◌++◌, length, ◌-◌}
+use Rattle.std.proofs.Common.{get_or, take, drop, Option, Some, None, refl, sym, ap, ◌∙◌, append_assoc, arith}
 use Rattle.std.specs.Prelude.{not}
 use Rattle.memchr.specs.Find.{IsFirstByte, is_byte}
 use Rattle.item_terms.specs.Base64Text.{joined_text}
-use Rattle.dirdoc_grammar.proofs.FirstByte.{not_true}
-use Rattle.dirdoc_grammar.proofs.FirstLine.{whole_rest}
+use Rattle.dirdoc_grammar.proofs.{FirstByte.not_true, FirstLine.whole_rest}
 
 -- no byte up to a place is a NL
 abbrev pub NoneBelow : ℕ → List ℕ → Type 0

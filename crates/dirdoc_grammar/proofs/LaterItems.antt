@@ -1,27 +1,22 @@
 -- An item that is not known yet ends no earlier than the bytes that are there.
-use Rattle.std.proofs.Common.{◌≡◌, ℕ, ◌+◌, ◌<◌, ◌≤◌, Bool, true, false, cond, List, [], ◌∷◌, ◌++◌, length, drop, Option, Some, None, Result, Ok, Err, refl, sym, ap, subst, ◌∙◌, inl, inr, arith}
-use Rattle.std.specs.Prelude.{nat_lt}
-use Rattle.std.proofs.lemmas.Bool.{cases_lt, lt-ltb, false≢true}
-use Rattle.std.proofs.lemmas.List.{length-append, length-drop, length-take, drop-append-le}
+use Rattle.std.proofs.Common.{◌≡◌, ℕ, ◌+◌, ◌<◌, ◌≤◌, Bool, true, false, cond, List, [], ◌∷◌, ◌++◌, length, drop, Option}
+use Rattle.std.proofs.Common.{Some, None, Result, Ok, Err, refl, sym, ap, subst, ◌∙◌, inl, inr, arith}
+use Rattle.std.proofs.lemmas.{Bool.{cases_lt, lt-ltb, false≢true}, List.{length-append, length-drop, length-take}}
+use Rattle.std.{proofs.lemmas.List.drop-append-le, specs.Prelude.nat_lt}
 use Rattle.item_terms.specs.declared.fault.DocReason.TheVariants.{Keyword, ObjectTooLong, ObjectBase64, ObjectEnd}
-use Rattle.item_terms.specs.declared.fault.DocFault.{DocFault}
-use Rattle.item_terms.specs.Lines.{Line, lines, size}
-use Rattle.item_terms.specs.Words.{is_blank_line, is_keyword_line, begin_words, is_end_line}
-use Rattle.item_terms.specs.Base64Text.{is_body}
-use Rattle.item_terms.specs.Faults.{at, line_fault, object_line_fault, max_object}
-use Rattle.item_terms.specs.Steps.{Item, Open, Object, Step, step, nothing, keyword_line, object_lines, keyword_item, begun_object, with_line, with_object, open_item, item_unless, open_unless, step_unless, object_step, line_item, read_line, starts_dash, first_object_line}
-use Rattle.item_terms.specs.Items.{Contents, contents, contents_of, also, proceed, at_end}
-use Rattle.dirdoc_grammar.specs.declared.cursor.Cursor.{Cursor}
-use Rattle.dirdoc_grammar.specs.declared.front.Stop.{Stop}
-use Rattle.dirdoc_grammar.specs.declared.front.Found.TheVariants.{Open as More}
-use Rattle.dirdoc_grammar.specs.declared.item.Item as found_item
-use Rattle.dirdoc_grammar.specs.Cursors.{IsAt, IsOver, fed_by}
-use Rattle.dirdoc_grammar.specs.Feeding.{left_with, EndsNoEarlier}
-use Rattle.dirdoc_grammar.specs.Reading.{first_line, first_line_len, from_place, EndsFrom, Finds, InObject, IsCut, Stands}
-use Rattle.dirdoc_grammar.proofs.Endings.{cut_open, over_of}
-use Rattle.dirdoc_grammar.proofs.FirstLine.{at_first}
-use Rattle.dirdoc_grammar.proofs.LineSteps.{first_dash, dash_more}
+use Rattle.item_terms.specs.{declared.fault.DocFault.DocFault, Lines.{Line, lines, size}, Words.is_blank_line}
+use Rattle.item_terms.specs.{Words.{is_keyword_line, begin_words, is_end_line}, Base64Text.is_body, Faults.at}
+use Rattle.item_terms.specs.{Faults.{line_fault, object_line_fault, max_object}, Steps.{Item, Open, Object, Step, step}}
+use Rattle.item_terms.specs.Steps.{nothing, keyword_line, object_lines, keyword_item, begun_object, with_line}
+use Rattle.item_terms.specs.Steps.{with_object, open_item, item_unless, open_unless, step_unless, object_step}
+use Rattle.item_terms.specs.{Steps.{line_item, read_line, starts_dash, first_object_line}, Items.{Contents, contents}}
+use Rattle.item_terms.specs.Items.{contents_of, also, proceed, at_end}
+use Rattle.dirdoc_grammar.specs.declared.{cursor.Cursor.Cursor, front.{Stop.Stop, Found.TheVariants.Open as More}}
+use Rattle.dirdoc_grammar.specs.{Cursors.{IsAt, IsOver, fed_by}, Feeding.{left_with, EndsNoEarlier}, Reading.first_line}
+use Rattle.dirdoc_grammar.specs.Reading.{first_line_len, from_place, EndsFrom, Finds, InObject, IsCut, Stands}
+use Rattle.dirdoc_grammar.proofs.{Endings.{cut_open, over_of}, FirstLine.at_first, LineSteps.{first_dash, dash_more}}
 use Rattle.dirdoc_grammar.proofs.Quiet.{grows}
+use Rattle.dirdoc_grammar.specs.declared.item.Item as found_item
 
 -- the first of these items ends at this place or behind it
 abbrev FirstFrom : ℕ → List Item → Type 0

@@ -1,11 +1,10 @@
 -- The sizes of an object's lines, one line after the other.
-use Rattle.std.proofs.Common.{◌≡◌, ℕ, zero, suc, ◌+◌, ◌-◌, ◌<◌, ◌≤◌, ◌⊎◌, Bool, true, false, cond, List, [], ◌∷◌, length, get_or, take, drop, Option, Some, None, refl, sym, ap, ◌∙◌, inl, inr, arith}
-use Rattle.std.specs.Prelude.{◌==◌, ◌&&◌, nat_le}
-use Rattle.std.proofs.lemmas.Bool.{le-leb, lt-leb}
+use Rattle.std.proofs.Common.{◌≡◌, ℕ, zero, suc, ◌+◌, ◌-◌, ◌<◌, ◌≤◌, ◌⊎◌, Bool, true, false, cond, List, [], ◌∷◌}
+use Rattle.std.proofs.Common.{length, get_or, take, drop, Option, Some, None, refl, sym, ap, ◌∙◌, inl, inr, arith}
+use Rattle.std.{proofs.lemmas.Bool.{le-leb, lt-leb}, specs.Prelude.{◌==◌, ◌&&◌, nat_le}}
 use Rattle.memchr.specs.Find.{IsFirstByte, is_byte}
 use Rattle.item_terms.specs.Base64Text.{lines_fit}
-use Rattle.dirdoc_grammar.proofs.FirstLine.{whole_rest}
-use Rattle.dirdoc_grammar.proofs.JoinedLines.{NoneBelow, none_below, none_at_all}
+use Rattle.dirdoc_grammar.proofs.{FirstLine.whole_rest, JoinedLines.{NoneBelow, none_below, none_at_all}}
 
 -- a line of n bytes fits, and so do the lines after it
 abbrev line_fits : ℕ → List ℕ → Bool

@@ -1,20 +1,17 @@
 -- What the line at a place makes, from what was found of it.
-use Rattle.std.proofs.Common.{◌≡◌, ℕ, ◌+◌, ◌-◌, ◌<◌, ◌≤◌, Bool, true, false, cond, eqb, List, [], ◌∷◌, ◌++◌, length, take, drop, Option, Some, None, Result, Ok, Err, refl, sym, ap, subst, ◌∙◌, arith}
-use Rattle.std.specs.Prelude.{IfSome, nat_lt}
-use Rattle.std.proofs.lemmas.Bool.{eqb-true}
-use Rattle.std.proofs.lemmas.List.{length-drop, length-append, drop-append-le}
-use Rattle.item_terms.specs.declared.fault.DocFault.{DocFault}
-use Rattle.item_terms.specs.declared.fault.DocReason.TheVariants.{Keyword, ObjectWords, ObjectTooLong, Unterminated}
-use Rattle.item_terms.specs.Lines.{Line}
-use Rattle.item_terms.specs.Words.{begin_words, begins_dash, is_blank_line, is_keyword_line}
+use Rattle.std.proofs.Common.{◌≡◌, ℕ, ◌+◌, ◌-◌, ◌<◌, ◌≤◌, Bool, true, false, cond, eqb, List, [], ◌∷◌, ◌++◌, length}
+use Rattle.std.proofs.Common.{take, drop, Option, Some, None, Result, Ok, Err, refl, sym, ap, subst, ◌∙◌, arith}
+use Rattle.std.{proofs.lemmas.{Bool.eqb-true, List.{length-drop, length-append, drop-append-le}}, specs.Prelude.IfSome}
+use Rattle.std.specs.Prelude.{nat_lt}
+use Rattle.item_terms.specs.declared.fault.{DocFault.DocFault, DocReason.TheVariants.{Keyword, ObjectWords}}
+use Rattle.item_terms.specs.{declared.fault.DocReason.TheVariants.{ObjectTooLong, Unterminated}, Lines.Line}
+use Rattle.item_terms.specs.{Words.{begin_words, begins_dash, is_blank_line, is_keyword_line}, Faults.{line_fault, at}}
+use Rattle.item_terms.specs.{Faults.max_object, Steps.{read_line, begun_object, keyword_item, Step, step, nothing}}
+use Rattle.item_terms.specs.Steps.{keyword_line, object_lines, line_item, item_unless, open_item, starts_dash}
+use Rattle.item_terms.specs.{Steps.{first_object_line, open_unless}, Items.{also, failed_contents}}
 use Rattle.item_terms.specs.Items as model
-use Rattle.item_terms.specs.Faults.{line_fault, at, max_object}
-use Rattle.item_terms.specs.Steps.{read_line, begun_object, keyword_item, Step, step, nothing, keyword_line, object_lines, line_item, item_unless, open_item, starts_dash, first_object_line, open_unless}
-use Rattle.item_terms.specs.Items.{also, failed_contents}
-use Rattle.dirdoc_grammar.specs.declared.item.Item.{Item}
-use Rattle.dirdoc_grammar.specs.Reading.{first_line, from_place, Reads, BeginsObject}
-use Rattle.dirdoc_grammar.proofs.Fronts.{grows_at, ended_at, fault_stays, cut_line}
-use Rattle.dirdoc_grammar.specs.Seen.{seen_item, seen_if}
+use Rattle.dirdoc_grammar.specs.{declared.item.Item.Item, Reading.{first_line, from_place, Reads, BeginsObject}}
+use Rattle.dirdoc_grammar.{specs.Seen.{seen_item, seen_if}, proofs.Fronts.{grows_at, ended_at, fault_stays, cut_line}}
 use Rattle.dirdoc_grammar.proofs.FirstLine.{whole_rest, goes_on, fails, ends_inside, at_step, line_after, line_grows}
 
 -- what is known of a line whose text was found

@@ -1,15 +1,11 @@
 -- What is found of the next item, behind blank lines.
-use Rattle.std.proofs.Common.{◌≡◌, ℕ, ◌<◌, ◌≤◌, ◌⊎◌, List, ◌++◌, length, Option, Some, None, Ok, Err, sym, ap, ◌∙◌, inl, inr, arith}
-use Rattle.std.specs.Prelude.{IfSome}
-use Rattle.item_terms.specs.declared.fault.DocFault.{DocFault}
-use Rattle.item_terms.specs.declared.fault.DocReason.TheVariants.{Unterminated}
+use Rattle.std.proofs.Common.{◌≡◌, ℕ, ◌<◌, ◌≤◌, ◌⊎◌, List, ◌++◌, length, Option, Some, None, Ok, Err, sym, ap, ◌∙◌, inl}
+use Rattle.std.{proofs.Common.{inr, arith}, specs.Prelude.IfSome}
+use Rattle.item_terms.specs.declared.fault.{DocFault.DocFault, DocReason.TheVariants.Unterminated}
 use Rattle.item_terms.specs.Items as model
-use Rattle.dirdoc_grammar.specs.declared.item.Item.{Item}
-use Rattle.dirdoc_grammar.specs.declared.front.Stop.{Stop}
-use Rattle.dirdoc_grammar.specs.declared.front.Phase.TheVariants.{Between}
-use Rattle.dirdoc_grammar.specs.declared.front.Found.TheVariants.{Whole, Fault, Open}
-use Rattle.dirdoc_grammar.specs.Reading.{from_place, Reads, IsCut, Ends, Finds, FindsObject}
-use Rattle.dirdoc_grammar.specs.Seen.{seen_item}
+use Rattle.dirdoc_grammar.specs.declared.{item.Item.Item, front.{Stop.Stop, Phase.TheVariants.Between}}
+use Rattle.dirdoc_grammar.specs.{declared.front.Found.TheVariants.{Whole, Fault, Open}, Reading.{from_place, Reads}}
+use Rattle.dirdoc_grammar.specs.{Reading.{IsCut, Ends, Finds, FindsObject}, Seen.seen_item}
 
 -- nothing but blank lines stands up to a line
 pub record BlankTo (limit place line : ℕ) (bytes : List ℕ) : Type 0 where

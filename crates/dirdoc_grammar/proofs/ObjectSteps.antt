@@ -1,25 +1,17 @@
 -- What a line of an object makes.
-use Rattle.std.proofs.Common.{◌≡◌, ℕ, suc, ◌+◌, ◌-◌, ◌<◌, ◌≤◌, ◌⊎◌, Bool, true, false, eqb, List, [], ◌∷◌, ◌++◌, length, take, drop, Option, Some, None, Result, Ok, Err, refl, sym, ap, subst, ◌∙◌, append_assoc, take-add, inl, inr, arith}
-use Rattle.std.proofs.lemmas.List.{drop-drop, length-append, length-drop}
+use Rattle.std.proofs.Common.{◌≡◌, ℕ, suc, ◌+◌, ◌-◌, ◌<◌, ◌≤◌, ◌⊎◌, Bool, true, false, eqb, List, [], ◌∷◌, ◌++◌, length}
+use Rattle.std.proofs.Common.{take, drop, Option, Some, None, Result, Ok, Err, refl, sym, ap, subst, ◌∙◌, append_assoc}
+use Rattle.std.proofs.{Common.{take-add, inl, inr, arith}, lemmas.List.{drop-drop, length-append, length-drop}}
 use Rattle.std.proofs.lemmas.Bool.{eqb-true, false≢true}
-use Rattle.item_terms.specs.declared.fault.DocFault.{DocFault}
-use Rattle.item_terms.specs.Lines.{Line}
-use Rattle.item_terms.specs.Words.{begins_dash}
+use Rattle.item_terms.specs.{declared.fault.{DocFault.DocFault, DocReason.TheVariants.Unterminated}, Lines.Line}
+use Rattle.item_terms.specs.{Words.begins_dash, Faults.{object_line_fault, at}, Steps.{with_line, Object, step}}
+use Rattle.item_terms.specs.{Steps.{nothing, object_lines, object_step, step_unless}, Items.{also, failed_contents}}
 use Rattle.item_terms.specs.Items as model
-use Rattle.item_terms.specs.Faults.{object_line_fault}
-use Rattle.item_terms.specs.Steps.{with_line, Object, step, nothing, object_lines, object_step, step_unless}
-use Rattle.item_terms.specs.Items.{also, failed_contents}
-use Rattle.dirdoc_grammar.specs.declared.item.Item.{Item}
-use Rattle.item_terms.specs.declared.fault.DocReason.TheVariants.{Unterminated}
-use Rattle.item_terms.specs.Faults.{at}
-use Rattle.dirdoc_grammar.specs.declared.front.Stop.{Stop}
-use Rattle.dirdoc_grammar.specs.declared.front.Phase.TheVariants.{Keyword}
-use Rattle.dirdoc_grammar.specs.declared.front.Phase.TheVariants.{Object as Inside}
-use Rattle.dirdoc_grammar.specs.declared.front.Found.{Found}
-use Rattle.dirdoc_grammar.specs.declared.front.Found.TheVariants.{Whole, Fault, Open}
-use Rattle.dirdoc_grammar.specs.Reading.{first_line, from_place, last_step, lines_from, Waits, IsCut, IsFault, Fails, FindsLines, FindsObject}
-use Rattle.dirdoc_grammar.proofs.Fronts.{grows_at, ended_at, object_fault_stays, cut_object}
-use Rattle.dirdoc_grammar.specs.Seen.{seen_item}
+use Rattle.dirdoc_grammar.specs.declared.{item.Item.Item, front.{Stop.Stop, Phase.TheVariants.Keyword}}
+use Rattle.dirdoc_grammar.specs.declared.front.{Phase.TheVariants.Object as Inside, Found.{Found, TheVariants.Whole}}
+use Rattle.dirdoc_grammar.specs.{declared.front.Found.TheVariants.{Fault, Open}, Reading.{first_line, from_place}}
+use Rattle.dirdoc_grammar.specs.Reading.{last_step, lines_from, Waits, IsCut, IsFault, Fails, FindsLines, FindsObject}
+use Rattle.dirdoc_grammar.{specs.Seen.seen_item, proofs.Fronts.{grows_at, ended_at, object_fault_stays, cut_object}}
 use Rattle.dirdoc_grammar.proofs.FirstLine.{goes_on, fails, ends_inside, line_grows, line_after, with_byte}
 
 -- what is known of a line of an object whose text was found

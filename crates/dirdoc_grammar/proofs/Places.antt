@@ -1,19 +1,19 @@
 -- Each item of a document stands in the input where it says.
-use Rattle.std.proofs.Common.{◌≡◌, ℕ, ◌+◌, ◌-◌, ◌≤◌, Bool, true, false, cond, eqb, List, [], ◌∷◌, ◌++◌, length, take, drop, Option, Some, None, Result, Ok, Err, refl, sym, ap, ◌∙◌, arith, append_assoc}
-use Rattle.std.specs.Prelude.{nat_lt, min, ◌&&◌}
-use Rattle.std.proofs.lemmas.Bool.{eqb-true}
-use Rattle.std.proofs.lemmas.List.{length-drop, length-take, length-append, drop-drop, drop-append-le, take-append-drop}
-use Rattle.std.proofs.Math.Seq.{take-append_seam, drop-append_seam}
-use Rattle.std.proofs.lemmas.List.Sums.{prefix_len-le-length}
-use Rattle.std.specs.List.{prefix_len, suffix_len}
-use Rattle.item_terms.specs.declared.fault.DocFault.{DocFault}
-use Rattle.item_terms.specs.declared.fault.DocReason.TheVariants.{Keyword, Unterminated, ObjectBase64, ObjectEnd, ObjectTooLong}
-use Rattle.item_terms.specs.Lines.{Line, lines, onto, size}
-use Rattle.item_terms.specs.Words.{nul_in, is_blank, is_blank_line, is_keyword_line, is_word_byte, keyword, keyword_len, arguments, argument_start, begin_words, is_end_line}
-use Rattle.item_terms.specs.Faults.{at, or_else, too_long, unterminated_fault, nul_fault, line_fault, object_line_fault, max_line, max_object}
-use Rattle.item_terms.specs.Steps.{Item, Open, Step, Object, step, nothing, keyword_line, object_lines, keyword_item, begun_object, with_line, open_item, item_unless, open_unless, step_unless, object_step, line_item, read_line, starts_dash, first_object_line, with_object}
-use Rattle.item_terms.specs.Items.{Contents, contents_of, also, proceed, at_end}
-use Rattle.item_terms.specs.Base64Text.{is_body}
+use Rattle.std.proofs.Common.{◌≡◌, ℕ, ◌+◌, ◌-◌, ◌≤◌, Bool, true, false, cond, eqb, List, [], ◌∷◌, ◌++◌, length, take}
+use Rattle.std.proofs.Common.{drop, Option, Some, None, Result, Ok, Err, refl, sym, ap, ◌∙◌, arith, append_assoc}
+use Rattle.std.proofs.lemmas.{Bool.eqb-true, List.{length-drop, length-take, length-append, drop-drop, drop-append-le}}
+use Rattle.std.proofs.{lemmas.List.{take-append-drop, Sums.prefix_len-le-length}, Math.Seq.take-append_seam}
+use Rattle.std.{proofs.Math.Seq.drop-append_seam, specs.{Prelude.{nat_lt, min, ◌&&◌}, List.{prefix_len, suffix_len}}}
+use Rattle.item_terms.specs.declared.fault.{DocFault.DocFault, DocReason.TheVariants.{Keyword, Unterminated}}
+use Rattle.item_terms.specs.{declared.fault.DocReason.TheVariants.{ObjectBase64, ObjectEnd, ObjectTooLong}, Lines.Line}
+use Rattle.item_terms.specs.{Lines.{lines, onto, size}, Words.{nul_in, is_blank, is_blank_line, is_keyword_line}}
+use Rattle.item_terms.specs.Words.{is_word_byte, keyword, keyword_len, arguments, argument_start, begin_words}
+use Rattle.item_terms.specs.{Words.is_end_line, Faults.{at, or_else, too_long, unterminated_fault, nul_fault}}
+use Rattle.item_terms.specs.{Faults.{line_fault, object_line_fault, max_line, max_object}, Steps.{Item, Open, Step}}
+use Rattle.item_terms.specs.Steps.{Object, step, nothing, keyword_line, object_lines, keyword_item, begun_object}
+use Rattle.item_terms.specs.Steps.{with_line, open_item, item_unless, open_unless, step_unless, object_step, line_item}
+use Rattle.item_terms.specs.{Steps.{read_line, starts_dash, first_object_line, with_object}, Items.Contents}
+use Rattle.item_terms.specs.{Items.{contents_of, also, proceed, at_end}, Base64Text.is_body}
 use Rattle.dirdoc_grammar.specs.InPlace.{InPlace, EachInPlace, StandInPlace}
 
 -- ---- the lines of a text joined are the text

@@ -1,20 +1,15 @@
 -- Bytes that end within a line, of which nothing more is known.
-use Rattle.std.proofs.Common.{◌≡◌, ℕ, zero, suc, ◌+◌, ◌-◌, ◌<◌, ◌≤◌, Bool, true, false, cond, eqb, List, [], ◌∷◌, ◌++◌, length, take, drop, Some, None, refl, sym, ap, ◌∙◌, inl, inr, arith}
+use Rattle.std.proofs.Common.{◌≡◌, ℕ, zero, suc, ◌+◌, ◌-◌, ◌<◌, ◌≤◌, Bool, true, false, cond, eqb, List, [], ◌∷◌, ◌++◌}
+use Rattle.std.proofs.Common.{length, take, drop, Some, None, refl, sym, ap, ◌∙◌, inl, inr, arith}
+use Rattle.std.proofs.lemmas.{Bool.{cases_lt, le-leb, lt-ltb, le-ltb}, List.{length-drop, length-take, drop-drop}}
 use Rattle.std.specs.Prelude.{min, nat_lt, nat_le, not, ◌&&◌}
-use Rattle.std.proofs.lemmas.Bool.{cases_lt, le-leb, lt-ltb, le-ltb}
-use Rattle.std.proofs.lemmas.List.{length-drop, length-take, drop-drop}
-use Rattle.item_terms.specs.declared.fault.DocReason.TheVariants.{Unterminated, LineTooLong, DocumentTooLong, ObjectTooLong}
-use Rattle.item_terms.specs.declared.fault.DocFault.{DocFault}
-use Rattle.item_terms.specs.Lines.{Line, size}
-use Rattle.item_terms.specs.Words.{begins_dash, nul_in}
-use Rattle.item_terms.specs.Faults.{at, or_else, nul_fault, line_fault, max_line, max_object}
-use Rattle.item_terms.specs.Items.{Open, nothing, keyword_line, object_lines}
-use Rattle.dirdoc_grammar.specs.declared.front.Phase.{Phase}
-use Rattle.dirdoc_grammar.specs.declared.front.Phase.TheVariants.{Between, Keyword, Object}
-use Rattle.dirdoc_grammar.specs.Reading.{first_line_len, first_line, IsOf, IsCut}
-use Rattle.dirdoc_grammar.specs.Cursors.{NoNl, IsOver}
-use Rattle.dirdoc_grammar.proofs.FirstLine.{whole_rest}
-use Rattle.dirdoc_grammar.proofs.LineSteps.{first_dash}
+use Rattle.item_terms.specs.declared.fault.DocReason.TheVariants.{Unterminated, LineTooLong, DocumentTooLong}
+use Rattle.item_terms.specs.{declared.fault.{DocReason.TheVariants.ObjectTooLong, DocFault.DocFault}, Lines.Line}
+use Rattle.item_terms.specs.{Lines.size, Words.{begins_dash, nul_in}, Faults.{at, or_else, nul_fault, line_fault}}
+use Rattle.item_terms.specs.{Faults.{max_line, max_object}, Items.{Open, nothing, keyword_line, object_lines}}
+use Rattle.dirdoc_grammar.specs.declared.front.Phase.{Phase, TheVariants.{Between, Keyword, Object}}
+use Rattle.dirdoc_grammar.specs.{Reading.{first_line_len, first_line, IsOf, IsCut}, Cursors.{NoNl, IsOver}}
+use Rattle.dirdoc_grammar.proofs.{FirstLine.whole_rest, LineSteps.first_dash}
 
 -- ---- bytes without a NL
 

@@ -1,16 +1,11 @@
 -- What is written in base64 has symbols and '=' alone.
-use Rattle.std.proofs.Common.{◌≡◌, ℕ, Bool, true, false, cond, List, [], ◌∷◌, refl, ap, ◌∙◌}
-use Rattle.std.specs.Prelude.{◌==◌, nat_le, ◌&&◌, ◌||◌}
+use Rattle.std.proofs.{Common.{◌≡◌, ℕ, Bool, true, false, cond, List, [], ◌∷◌, refl, ap, ◌∙◌}, lemmas.Bool.and_parts}
+use Rattle.std.{proofs.{lemmas.Bool.false≢true, Math.Bool.or-true}, specs.Prelude.{◌==◌, nat_le, ◌&&◌, ◌||◌}}
 use Rattle.std.specs.List.{list_all}
-use Rattle.std.proofs.lemmas.Bool.{and_parts, false≢true}
-use Rattle.std.proofs.Math.Bool.{or-true}
-use Rattle.base64.specs.Engines.{standard}
-use Rattle.base64.specs.GeneralPurpose.{IsBytes, encode_of}
-use Rattle.dirdoc_grammar.specs.declared.base64_text.Group.{Group}
-use Rattle.dirdoc_grammar.specs.declared.base64_text.Group.TheVariants.{Start, One, Two, Three, PaddedOnce, Closed}
-use Rattle.dirdoc_grammar.specs.Groups.{symbol, may_grow, grown_group, goes_on}
-use Rattle.dirdoc_grammar.specs.Bodies.{base64_of}
-use Rattle.dirdoc_grammar.proofs.Base64Groups.{encoding_is_accepted}
+use Rattle.base64.specs.{Engines.standard, GeneralPurpose.{IsBytes, encode_of}}
+use Rattle.dirdoc_grammar.specs.declared.base64_text.Group.{Group, TheVariants.{Start, One, Two, Three, PaddedOnce}}
+use Rattle.dirdoc_grammar.specs.{declared.base64_text.Group.TheVariants.Closed, Groups.{symbol, may_grow, grown_group}}
+use Rattle.dirdoc_grammar.{specs.{Groups.goes_on, Bodies.base64_of}, proofs.Base64Groups.encoding_is_accepted}
 
 abbrev pub is_symbol : ℕ → Bool
 is_symbol b = nat_le (symbol b) 63 || (b == 61)

@@ -1,13 +1,10 @@
 -- Whole groups of base64 without padding, in front of a text.
-use Rattle.std.proofs.Common.{◌≡◌, ℕ, ◌-◌, ◌≤◌, Bool, true, false, cond, List, [], ◌∷◌, length, get_or, take, drop, refl, sym, ap, ◌∙◌, arith}
+use Rattle.std.proofs.Common.{◌≡◌, ℕ, ◌-◌, ◌≤◌, Bool, true, false, cond, List, [], ◌∷◌, length, get_or, take, drop}
+use Rattle.std.proofs.{Common.{refl, sym, ap, ◌∙◌, arith}, lemmas.Bool.{and_parts, false≢true, ne_eqb}}
 use Rattle.std.specs.Prelude.{◌==◌, ◌&&◌, nat_le, not}
-use Rattle.std.proofs.lemmas.Bool.{and_parts, false≢true, ne_eqb}
 use Rattle.item_terms.specs.Base64Text.{joined_text}
-use Rattle.dirdoc_grammar.specs.declared.base64_text.Group.TheVariants.{Start}
-use Rattle.dirdoc_grammar.specs.Groups.{symbol, goes_on}
-use Rattle.dirdoc_grammar.proofs.Base64Encodings.{IsSymbol}
-use Rattle.dirdoc_grammar.proofs.Base64Groups.{four_symbols}
-use Rattle.dirdoc_grammar.proofs.FirstLine.{whole_rest}
+use Rattle.dirdoc_grammar.specs.{declared.base64_text.Group.TheVariants.Start, Groups.{symbol, goes_on}}
+use Rattle.dirdoc_grammar.proofs.{Base64Encodings.IsSymbol, Base64Groups.four_symbols, FirstLine.whole_rest}
 
 -- a symbol is none of the other bytes
 not_other : (n b : ℕ) → nat_le (symbol n) 63 ≡ false → IsSymbol b → (b == n) ≡ false

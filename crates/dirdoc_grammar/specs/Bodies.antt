@@ -1,10 +1,7 @@
 -- What is written for an object, and what an object's lines spell (dir-spec, meta-format; RFC 4648, section 4).
-use Rattle.std.specs.Prelude.{ℕ, ◌+◌, ◌==◌, List, [], ◌∷◌, ◌++◌, Option, if◌then◌else◌}
-use Rattle.std.specs.Result.{result_ok}
-use Rattle.base64.specs.Engines.{standard}
-use Rattle.base64.specs.GeneralPurpose.{decode_of, encode_of}
-use Rattle.item_terms.specs.Base64Text.{joined_text}
-use Rattle.item_terms.specs.Words.{begins, ends, dashes}
+use Rattle.std.specs.{Prelude.{ℕ, ◌+◌, ◌==◌, List, [], ◌∷◌, ◌++◌, Option, if◌then◌else◌}, Result.result_ok}
+use Rattle.base64.specs.{Engines.standard, GeneralPurpose.{decode_of, encode_of}}
+use Rattle.item_terms.specs.{Base64Text.joined_text, Words.{begins, ends, dashes}}
 
 -- the bytes in standard base64, with its padding
 unfoldable pub base64_of : List ℕ → List ℕ

@@ -1,11 +1,9 @@
 -- A reader's place in bytes that may go on.
 use Rattle.std.specs.Prelude.{◌≡◌, ℕ, ◌-◌, ◌≤◌, ◌⊎◌, Bool, List, ◌++◌, length, drop, IsTrue}
 use Rattle.item_terms.specs.Items.{Open, nothing}
-use Rattle.dirdoc_grammar.specs.declared.cursor.Cursor.{Cursor}
-use Rattle.dirdoc_grammar.specs.declared.front.Phase.TheVariants.{Between, Object}
-use Rattle.dirdoc_grammar.specs.declared.take.Take.TheVariants.{NotYet}
-use Rattle.dirdoc_grammar.specs.Feeding.{Fed, Takes}
-use Rattle.dirdoc_grammar.specs.Reading.{first_line_len, from_place, IsCut, Stands}
+use Rattle.dirdoc_grammar.specs.declared.{cursor.Cursor.Cursor, front.Phase.TheVariants.{Between, Object}}
+use Rattle.dirdoc_grammar.specs.{declared.take.Take.TheVariants.NotYet, Feeding.{Fed, Takes}, Reading.first_line_len}
+use Rattle.dirdoc_grammar.specs.Reading.{from_place, IsCut, Stands}
 
 -- between these places no NL stands
 abbrev pub NoNl : List ℕ → ℕ → ℕ → Type 0

@@ -1,11 +1,10 @@
 -- A document whose bytes arrive piece by piece: what is known of it, and what a reader of it gives.
-use Rattle.std.specs.Prelude.{◌≡◌, ℕ, ◌+◌, ◌-◌, ◌<◌, ◌≤◌, Bool, true, false, List, [], ◌∷◌, ◌++◌, length, drop, Option, Some, None, Result, Ok, Err}
+use Rattle.std.specs.Prelude.{◌≡◌, ℕ, ◌+◌, ◌-◌, ◌<◌, ◌≤◌, Bool, true, false, List, [], ◌∷◌, ◌++◌, length, drop, Option}
+use Rattle.std.specs.Prelude.{Some, None, Result, Ok, Err}
 use Rattle.item_terms.specs.declared.fault.DocFault.{DocFault}
 use Rattle.item_terms.specs.Items as model
-use Rattle.dirdoc_grammar.specs.declared.take.Take.{Take}
-use Rattle.dirdoc_grammar.specs.declared.take.Take.TheVariants.{Item, NotYet, End, Fault}
+use Rattle.dirdoc_grammar.specs.{declared.take.Take.{Take, TheVariants.{Item, NotYet, End, Fault}}, Seen.seen_item}
 use Rattle.dirdoc_grammar.specs.declared.item.Item as item
-use Rattle.dirdoc_grammar.specs.Seen.{seen_item}
 
 -- The bytes that were fed and not taken, the place of the first of them, the place that the document may not reach, and
 -- whether no more follow.

@@ -1,7 +1,7 @@
 -- How the code reads base64: symbol by symbol, in groups of four. A proof shows that this is what `is_base64` says.
 use Rattle.std.specs.Prelude.{ℕ, ◌+◌, ◌-◌, ◌==◌, ◌%◌, nat_le, Bool, true, false, ◌&&◌, List, [], ◌∷◌, if◌then◌else◌}
-use Rattle.dirdoc_grammar.specs.declared.base64_text.Group.{Group}
-use Rattle.dirdoc_grammar.specs.declared.base64_text.Group.TheVariants.{Start, One, Two, Three, PaddedOnce, Closed}
+use Rattle.dirdoc_grammar.specs.declared.base64_text.Group.{Group, TheVariants.{Start, One, Two, Three, PaddedOnce}}
+use Rattle.dirdoc_grammar.specs.declared.base64_text.Group.TheVariants.{Closed}
 
 -- the value of a base64 symbol, and 64 of another byte
 abbrev pub symbol : ℕ → ℕ

@@ -1,21 +1,12 @@
 -- The first line of a text, and what the functions of this crate find at a place of a document.
-use Rattle.std.specs.Prelude.{◌≡◌, ℕ, ◌==◌, nat_lt, Bool, true, false, not, List, [], ◌∷◌, ◌++◌, length, take, drop, ◌<◌, ◌≤◌, ◌⊎◌, Option, Some, None, Result, Ok, Err, IfSome}
-use Rattle.std.specs.List.{prefix_len}
-use Rattle.std.specs.Borrow.{Bor}
-use Rattle.item_terms.specs.declared.fault.DocFault.{DocFault}
-use Rattle.item_terms.specs.Lines.{Line}
-use Rattle.item_terms.specs.declared.fault.DocReason.TheVariants.{Unterminated}
-use Rattle.item_terms.specs.Words.{words_of, begins_dash}
-use Rattle.item_terms.specs.Faults.{at, line_fault, object_line_fault}
+use Rattle.std.specs.Prelude.{◌≡◌, ℕ, ◌==◌, nat_lt, Bool, true, false, not, List, [], ◌∷◌, ◌++◌, length, take, drop}
+use Rattle.std.specs.{Prelude.{◌<◌, ◌≤◌, ◌⊎◌, Option, Some, None, Result, Ok, Err, IfSome}, List.prefix_len, Borrow.Bor}
+use Rattle.item_terms.specs.{declared.fault.{DocFault.DocFault, DocReason.TheVariants.Unterminated}, Lines.Line}
+use Rattle.item_terms.specs.{Words.{words_of, begins_dash}, Faults.{at, line_fault, object_line_fault}}
 use Rattle.item_terms.specs.Items as model
-use Rattle.dirdoc_grammar.specs.declared.item.Item.{Item}
-use Rattle.dirdoc_grammar.specs.declared.front.Found.{Found}
-use Rattle.dirdoc_grammar.specs.declared.front.Found.TheVariants.{Whole, Fault, Open}
-use Rattle.dirdoc_grammar.specs.declared.front.Stop.{Stop}
-use Rattle.dirdoc_grammar.specs.declared.front.Phase.{Phase}
-use Rattle.dirdoc_grammar.specs.declared.front.Phase.TheVariants.{Between, Keyword, Object}
-use Rattle.dirdoc_grammar.specs.declared.object.Body.{Body}
-use Rattle.dirdoc_grammar.specs.Seen.{seen_item}
+use Rattle.dirdoc_grammar.specs.declared.{item.Item.Item, front.Found.{Found, TheVariants.{Whole, Fault, Open}}}
+use Rattle.dirdoc_grammar.specs.declared.front.{Stop.Stop, Phase.{Phase, TheVariants.{Between, Keyword, Object}}}
+use Rattle.dirdoc_grammar.specs.{declared.object.Body.Body, Seen.seen_item}
 
 -- how many bytes stand before the first NL
 abbrev pub first_line_len : List ℕ → ℕ

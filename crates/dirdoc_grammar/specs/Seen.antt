@@ -2,8 +2,7 @@
 use Rattle.std.specs.Prelude.{◌≡◌, ◌+◌, ◌<◌, ◌≤◌, ◌^◌, [], ◌∷◌, length, Option, Some, None, Result, Ok, Err, IfSome}
 use Rattle.item_terms.specs.declared.fault.DocFault.{DocFault}
 use Rattle.item_terms.specs.Items as model
-use Rattle.dirdoc_grammar.specs.declared.item.Item.{Item}
-use Rattle.dirdoc_grammar.specs.declared.item.ObjectText.{ObjectText}
+use Rattle.dirdoc_grammar.specs.declared.item.{Item.Item, ObjectText.ObjectText}
 
 -- the object, without where it lies in memory
 abbrev pub seen_object : ObjectText → model.Object

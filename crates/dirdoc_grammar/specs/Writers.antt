@@ -1,9 +1,7 @@
 -- What contracts see of a writer, and what its calls may be given.
-use Rattle.std.specs.Prelude.{ℕ, ◌==◌, Bool, true, false, not, ◌&&◌, List, [], ◌∷◌, ◌++◌}
-use Rattle.std.specs.List.{list_all}
+use Rattle.std.specs.{Prelude.{ℕ, ◌==◌, Bool, true, false, not, ◌&&◌, List, [], ◌∷◌, ◌++◌}, List.list_all}
 use Rattle.item_terms.specs.Words.{is_blank}
-use Rattle.dirdoc_grammar.specs.declared.writer.Stage.{Stage}
-use Rattle.dirdoc_grammar.specs.declared.writer.Stage.TheVariants.{Between, Begun, Rested, Ended}
+use Rattle.dirdoc_grammar.specs.declared.writer.Stage.{Stage, TheVariants.{Between, Begun, Rested, Ended}}
 
 -- what a writer has: its text, and what may be written next
 pub record Draft : Type 0 where

@@ -1,10 +1,9 @@
 -- Items that are written: their text, and the items that are read of it.
-use Rattle.std.specs.Prelude.{◌≡◌, ℕ, ◌+◌, ◌≤◌, ◌==◌, Bool, true, false, not, List, [], ◌∷◌, ◌++◌, length, Option, Some, None, IfSome, slice_get}
-use Rattle.std.specs.List.{list_all}
+use Rattle.std.specs.Prelude.{◌≡◌, ℕ, ◌+◌, ◌≤◌, ◌==◌, Bool, true, false, not, List, [], ◌∷◌, ◌++◌, length, Option, Some}
+use Rattle.std.specs.{Prelude.{None, IfSome, slice_get}, List.list_all}
 use Rattle.base64.specs.GeneralPurpose.{IsBytes}
 use Rattle.item_terms.specs.Words.{is_letter_or_digit, is_word_byte, first_is, argument_start, trim, are_words}
-use Rattle.item_terms.specs.Faults.{max_line, max_object}
-use Rattle.item_terms.specs.Items.{Item, Object, Contents}
+use Rattle.item_terms.specs.{Faults.{max_line, max_object}, Items.{Item, Object, Contents}}
 use Rattle.dirdoc_grammar.specs.Bodies.{begin_line, body_text, object_text}
 
 -- an object that is written: its words and its bytes

@@ -1,7 +1,6 @@
 // Kinds of bytes, and the parts of a line.
 
-ghost use Rattle.std.specs.Prelude.{◌+◌, ◌<◌, ◌≡◌, ◌≤◌, ◌^◌, length, not, true};
-ghost use Rattle.std.specs.List.{prefix_len, suffix_len};
+ghost use Rattle.std.specs.{Prelude.{◌+◌, ◌<◌, ◌≡◌, ◌≤◌, ◌^◌, length, not, true}, List.{prefix_len, suffix_len}};
 ghost use Rattle.item_terms.specs.Words as words;
 ghost use Rattle.item_terms.specs.Lines.{size};
 ghost use Rattle.dirdoc_grammar.specs.Reading.{first_line_len, first_line, FindsWord};

@@ -2,11 +2,9 @@
 
 ghost use Rattle.std.specs.Prelude.{◌+◌, ◌<◌, ◌≡◌, ◌≤◌, ◌^◌, false, length, true, IsTrue};
 ghost use Rattle.item_terms.specs.Steps.{Open};
-ghost use Rattle.dirdoc_grammar.specs.Cursors.{behind, fed_by, IsAt, IsOver, NoNl, Past};
-ghost use Rattle.dirdoc_grammar.specs.Feeding.{EndsNoEarlier, IfItem, IfNotYet, Takes};
-ghost use Rattle.dirdoc_grammar.specs.declared.take.Take.TheVariants.{NotYet};
-ghost use Rattle.dirdoc_grammar.specs.Reading.{IsOf};
-ghost use Rattle.dirdoc_grammar.specs.Seen.{seen_item, LiesInOrder};
+ghost use Rattle.dirdoc_grammar.specs.{Cursors.{behind, fed_by, IsAt, IsOver, NoNl, Past}, Feeding.EndsNoEarlier};
+ghost use Rattle.dirdoc_grammar.specs.{Feeding.{IfItem, IfNotYet, Takes}, declared.take.Take.TheVariants.NotYet};
+ghost use Rattle.dirdoc_grammar.specs.{Reading.IsOf, Seen.{seen_item, LiesInOrder}};
 
 use crate::bytes::{begins_dash, line_len};
 use crate::front::{Found, Phase, Stop, between, next_item, whole_item};

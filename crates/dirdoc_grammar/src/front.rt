@@ -2,8 +2,7 @@
 
 ghost use Rattle.std.specs.Prelude.{◌≤◌, ◌<◌, ◌^◌, ◌≡◌, length, IfOk, IfSome};
 ghost use Rattle.dirdoc_grammar.specs.Reading.{all_of, last_of, Finds, IfWhole, LastOf};
-ghost use Rattle.dirdoc_grammar.specs.declared.front.Phase.TheVariants.{Between};
-ghost use Rattle.dirdoc_grammar.specs.Seen.{seen_item, LiesInOrder};
+ghost use Rattle.dirdoc_grammar.specs.{declared.front.Phase.TheVariants.Between, Seen.{seen_item, LiesInOrder}};
 
 use crate::item::Item;
 use crate::line::{at, line_at};

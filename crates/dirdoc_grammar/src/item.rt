@@ -3,8 +3,7 @@
 ghost use Rattle.std.specs.Prelude.{◌≡◌, IfOk, Ok, Some, option_map, true};
 ghost use Rattle.item_terms.specs.Base64Text.{is_base64, is_body, joined_text};
 ghost use Rattle.item_terms.specs.Words as line_words;
-ghost use Rattle.base64.specs.Engines.{standard};
-ghost use Rattle.base64.specs.GeneralPurpose.{decode_of};
+ghost use Rattle.base64.specs.{Engines.standard, GeneralPurpose.decode_of};
 ghost use Rattle.dirdoc_grammar.specs.Bodies.{decoded_bytes};
 
 use crate::bytes::first_word;

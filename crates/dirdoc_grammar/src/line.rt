@@ -1,11 +1,10 @@
 // One line of a document, between its items.
 
-ghost use Rattle.std.specs.Prelude.{◌+◌, ◌<◌, ◌≡◌, ◌≤◌, ◌^◌, Err, IfOk, IfSome, length, MatchResult, None, Ok, Some, true};
-ghost use Rattle.item_terms.specs.Steps.{line_item};
+ghost use Rattle.std.specs.Prelude.{◌+◌, ◌<◌, ◌≡◌, ◌≤◌, ◌^◌, Err, IfOk, IfSome, length, MatchResult, None, Ok, Some};
+ghost use Rattle.std.specs.Prelude.{true};
+ghost use Rattle.item_terms.specs.{Steps.line_item, Faults.line_fault};
 ghost use Rattle.item_terms.specs.Faults as faults;
-ghost use Rattle.item_terms.specs.Faults.{line_fault};
-ghost use Rattle.dirdoc_grammar.specs.Reading.{first_line, Reads};
-ghost use Rattle.dirdoc_grammar.specs.Seen.{seen_item, seen_if, LiesInOrder};
+ghost use Rattle.dirdoc_grammar.specs.{Reading.{first_line, Reads}, Seen.{seen_item, seen_if, LiesInOrder}};
 
 use crate::bytes::{
     begins_keyword, ends_or_blank, front_blanks, is_blank_line, keyword_len, line_len, nul_in,

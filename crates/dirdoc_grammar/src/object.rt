@@ -1,10 +1,11 @@
 // The object that may follow a keyword line.
 
-ghost use Rattle.std.specs.Prelude.{◌+◌, ◌<◌, ◌≡◌, ◌≤◌, ◌^◌, drop, Err, IfNone, IfOk, IfSome, length, None, Ok, Some, true};
+ghost use Rattle.std.specs.Prelude.{◌+◌, ◌<◌, ◌≡◌, ◌≤◌, ◌^◌, drop, Err, IfNone, IfOk, IfSome, length, None, Ok, Some};
+ghost use Rattle.std.specs.Prelude.{true};
 ghost use Rattle.item_terms.specs.Steps.{object_step};
 ghost use Rattle.item_terms.specs.Words as line_words;
-ghost use Rattle.dirdoc_grammar.specs.Reading.{last_step, object_of, BeginsObject, FindsLines, FindsObject, FindsObjectLine, IfWhole, IsFault};
-ghost use Rattle.dirdoc_grammar.specs.Seen.{seen_item, LiesInOrder};
+ghost use Rattle.dirdoc_grammar.specs.Reading.{last_step, object_of, BeginsObject, FindsLines, FindsObject};
+ghost use Rattle.dirdoc_grammar.specs.{Reading.{FindsObjectLine, IfWhole, IsFault}, Seen.{seen_item, LiesInOrder}};
 
 use crate::base64_text::is_body;
 use crate::bytes::{are_words, begins_dash, line_size};

@@ -2,9 +2,8 @@
 
 ghost use Rattle.std.specs.Prelude.{◌≡◌, ◌≤◌, ◌++◌, ◌∷◌, [], length, take, true, false, OnErr, OnOk, vec_len};
 ghost use Rattle.item_terms.specs.Words as line_words;
-ghost use Rattle.dirdoc_grammar.specs.Bodies.{base64_of, body_text, object_text};
-ghost use Rattle.dirdoc_grammar.specs.Writing.{IsKeyword, IsLineRest, tail};
-ghost use Rattle.dirdoc_grammar.specs.Writers.{longer_draft, ends_line, in_line, is_argument};
+ghost use Rattle.dirdoc_grammar.specs.{Bodies.{base64_of, body_text, object_text}, Writing.{IsKeyword, IsLineRest}};
+ghost use Rattle.dirdoc_grammar.specs.{Writing.tail, Writers.{longer_draft, ends_line, in_line, is_argument}};
 
 use base64::encoded_len;
 use base64::engine::general_purpose::STANDARD;

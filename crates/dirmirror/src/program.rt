@@ -7,12 +7,19 @@ use mirror_daemon::{MirrorOutside, MirrorStatus, report, run_mirror};
 use std::alloc::{AllocError, Global};
 use std::net::Net;
 use std::process::ExitCode;
+use std::rt::Clock;
 use std::sync::{OnceLock, Wait};
+use std::time::Duration;
 use std::{env, io};
 use tcp_edge::{TcpGate, TcpLink};
 
 /// Where the key service listens.
 const KEY_SERVICE: &str = "/run/dirauth-keys";
+
+/// How long connections are served between two rounds of the peers.
+fn period() -> Duration {
+    Duration::from_secs(60)
+}
 
 /// The words behind the program's name.
 fn words(rt: &HostRuntime) -> io::Result<Vec<String>> {
@@ -29,12 +36,12 @@ fn test_keys(alloc: Global) -> TestKeys {
 }
 
 /// The key service. It is dialed when it is asked first.
-fn service_keys<'a, N: Net>(
+fn service_keys<'a, R: Net + Clock>(
     alloc: Global,
-    net: &'a N,
-) -> Result<ServiceKeys<UnixDial<&'a N>>, AllocError> {
+    runtime: &'a R,
+) -> Result<ServiceKeys<UnixDial<&'a R>>, AllocError> {
     let path = String::from_str(alloc, KEY_SERVICE)?;
-    Ok(ServiceKeys::new(UnixDial::new(net, path)))
+    Ok(ServiceKeys::new(UnixDial::new(runtime, path)))
 }
 
 /// Runs the words with this verifier over the real errors, clock and sockets.
@@ -48,7 +55,7 @@ fn run_with<H: Wait, V: Verifier + Drop>(
     let mut outside = MirrorOutside {
         clock: SystemClock::new(rt),
         verifier,
-        gate: TcpGate::serving(rt.alloc(), rt, &listener),
+        gate: TcpGate::serving(rt.alloc(), rt, &listener, period()),
         link: TcpLink::new(rt.alloc(), rt),
         errors: StdSink::new(rt.stderr()),
     };

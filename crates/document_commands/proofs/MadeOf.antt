@@ -1,17 +1,10 @@
 -- A document ends where something is kept of it as it does where nothing is.
-use Rattle.std.proofs.Common.{◌≡◌, ℕ, ◌+◌, ◌-◌, ◌≤◌, ◌<◌, ◌^◌, List, length, drop, Result, Ok, Err, ap, sym, subst}
-use Rattle.std.proofs.Common.{◌∙◌, arith}
-use Rattle.std.proofs.lemmas.List.{length-drop}
-use Rattle.std.specs.List.{fold}
+use Rattle.std.proofs.Common.{◌≡◌, ℕ, ◌+◌, ◌-◌, ◌≤◌, ◌<◌, ◌^◌, List, length, drop, Result, Ok, Err, ap, sym, subst, ◌∙◌}
+use Rattle.std.{proofs.{Common.arith, lemmas.List.length-drop}, specs.List.fold}
 use Rattle.item_terms.specs.Items.{Contents, items_of}
-use Rattle.frame_terms.specs.declared.document.Group.{Group}
-use Rattle.frame_terms.specs.declared.document.Taken.{Taken}
-use Rattle.frame_terms.specs.declared.fault.FrameFault.{FrameFault}
-use Rattle.frame_terms.specs.declared.fault.ReadRefusal.{ReadRefusal}
-use Rattle.frame_terms.specs.declared.fault.ReadRefusal.TheVariants.{Frame, Memory}
-use Rattle.frame_terms.specs.Documents.{Document, document_of, finish}
-use Rattle.frame_terms.specs.Refusals.{Fails}
-use Rattle.frame_terms.specs.Tables.{Tables}
+use Rattle.frame_terms.specs.declared.{document.{Group.Group, Taken.Taken}, fault.FrameFault.FrameFault}
+use Rattle.frame_terms.specs.{declared.fault.ReadRefusal.{ReadRefusal, TheVariants.{Frame, Memory}}, Documents.Document}
+use Rattle.frame_terms.specs.{Documents.{document_of, finish}, Refusals.Fails, Tables.Tables}
 use Rattle.fault_places.specs.Within.{HasFaultsWithin}
 use Rattle.blank_lines.specs.Behind.{FitsBehind, refusal_behind}
 use Rattle.document_commands.specs.Ends.{ComesOf, Ends, EndsAs, made_of, refusal_of}

@@ -1,14 +1,11 @@
 -- What is named is not refused.
 use Rattle.std.proofs.Common.{◌≡◌, ℕ, List, None, Some, Err}
 use Rattle.item_terms.specs.Lines.{lines}
-use Rattle.bandwidth_file.specs.Files.{first_fault}
-use Rattle.bandwidth_file.specs.declared.refusal.BandFault.{BandFault}
-use Rattle.daemon_words.specs.declared.command.Kind.{Kind}
-use Rattle.daemon_words.specs.declared.command.Subject.{Subject}
+use Rattle.bandwidth_file.specs.{Files.first_fault, declared.refusal.BandFault.BandFault}
+use Rattle.daemon_words.specs.declared.{command.{Kind.Kind, Subject.Subject}, stop.DocumentRefusal.DocumentRefusal}
 use Rattle.daemon_words.specs.declared.command.Subject.TheVariants as subject
-use Rattle.daemon_words.specs.declared.stop.DocumentRefusal.{DocumentRefusal}
-use Rattle.document_commands.specs.Answers.{CheckAnswers, IsDocument, IsSubject, ReadAnswers, ShowAnswers, canonical_text, check_text}
-use Rattle.document_commands.specs.Documents.{Document, document_of}
+use Rattle.document_commands.specs.Answers.{CheckAnswers, IsDocument, IsSubject, ReadAnswers, ShowAnswers}
+use Rattle.document_commands.specs.{Answers.{canonical_text, check_text}, Documents.{Document, document_of}}
 use Rattle.document_commands.specs.declared.refusal.SubjectRefusal.{SubjectRefusal}
 
 document_not_refused : (text_of : Document → List ℕ) (kind : Kind) (bytes : List ℕ) (why : DocumentRefusal)

@@ -1,29 +1,21 @@
 -- What the commands over one document answer to an input.
 use Rattle.std.specs.Prelude.{◌≡◌, ℕ, List, [], ◌∷◌, codes, ◌++◌, None, Result, Ok, Err}
-use Rattle.item_terms.specs.Bytes.{line_feed}
-use Rattle.item_terms.specs.Lines.{lines}
-use Rattle.frame_terms.specs.declared.fault.ReadRefusal.{ReadRefusal}
-use Rattle.frame_terms.specs.declared.fault.ReadRefusal.TheVariants.{Frame}
+use Rattle.item_terms.specs.{Bytes.line_feed, Lines.lines}
+use Rattle.frame_terms.specs.declared.fault.ReadRefusal.{ReadRefusal, TheVariants.Frame}
 use Rattle.authority_certs.specs.Texts.{cert_text}
 use Rattle.vote_text.specs.Texts.{vote_text}
-use Rattle.consensus_terms.specs.Signed.{signed}
-use Rattle.consensus_terms.specs.Texts.{facts_text}
+use Rattle.consensus_terms.specs.{Signed.signed, Texts.facts_text}
 use Rattle.descriptor_text.specs.Texts.{descriptor_text}
 use Rattle.detached_doc.specs.Texts.{detached_text}
 use Rattle.micro_desc.specs.Texts.{micro_text}
-use Rattle.bandwidth_file.specs.Files.{first_fault}
+use Rattle.bandwidth_file.specs.{Files.first_fault, declared.refusal.BandFault.BandFault}
 use Rattle.bandwidth_file.specs.Texts as file
-use Rattle.daemon_words.specs.declared.command.Kind.{Kind}
-use Rattle.daemon_words.specs.declared.command.Subject.{Subject}
+use Rattle.daemon_words.specs.declared.{command.{Kind.Kind, Subject.Subject}, stop.DocumentRefusal.DocumentRefusal}
+use Rattle.daemon_words.specs.{declared.stop.Stop.Stop, Stops.{AnsweredAs, told_as}}
 use Rattle.daemon_words.specs.declared.command.Subject.TheVariants as subject
-use Rattle.bandwidth_file.specs.declared.refusal.BandFault.{BandFault}
-use Rattle.daemon_words.specs.Stops.{AnsweredAs, told_as}
-use Rattle.daemon_words.specs.declared.stop.DocumentRefusal.{DocumentRefusal}
-use Rattle.daemon_words.specs.declared.stop.Stop.{Stop}
-use Rattle.document_commands.specs.BandwidthFiles.{FileAnswers}
-use Rattle.document_commands.specs.declared.refusal.SubjectRefusal.{SubjectRefusal}
-use Rattle.document_commands.specs.declared.refusal.SubjectRefusal.TheVariants as refusal
+use Rattle.document_commands.specs.{BandwidthFiles.FileAnswers, declared.refusal.SubjectRefusal.SubjectRefusal}
 use Rattle.document_commands.specs.Documents.{Document, cert, consensus, descriptor, detached, document_of, micro, vote}
+use Rattle.document_commands.specs.declared.refusal.SubjectRefusal.TheVariants as refusal
 
 -- A document was read, and the text is that of it.
 pub record Tells {D : Type 0} (text_of : D → List ℕ) (read : Result D ReadRefusal) (text : List ℕ) : Type 0 where

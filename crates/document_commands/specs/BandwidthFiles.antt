@@ -1,8 +1,7 @@
 -- What the commands over a bandwidth file answer to an input.
 use Rattle.std.specs.Prelude.{◌≡◌, List, ℕ, Some, Result, Ok, Err}
 use Rattle.item_terms.specs.Lines.{lines}
-use Rattle.bandwidth_file.specs.Files.{IsBandFile, first_fault}
-use Rattle.bandwidth_file.specs.declared.file.BandFile.{BandFile}
+use Rattle.bandwidth_file.specs.{Files.{IsBandFile, first_fault}, declared.file.BandFile.BandFile}
 use Rattle.bandwidth_file.specs.declared.refusal.BandFault.{BandFault}
 
 -- The input is a bandwidth file, and the text is that of it.

@@ -1,18 +1,14 @@
 -- The document that an input is: one, with nothing but blank lines before and after it.
 use Rattle.std.specs.Prelude.{ℕ, List, Option, Some, None, Result, Ok, Err}
-use Rattle.frame_terms.specs.declared.fault.FrameReason.TheVariants.{Order}
-use Rattle.frame_terms.specs.declared.fault.ReadRefusal.{ReadRefusal}
+use Rattle.frame_terms.specs.declared.fault.{FrameReason.TheVariants.Order, ReadRefusal.ReadRefusal}
 use Rattle.frame_terms.specs.Refusals.{refusal_at}
-use Rattle.authority_certs.specs.declared.cert.Cert.{Cert}
-use Rattle.authority_certs.specs.Reading.{cert_of}
+use Rattle.authority_certs.specs.{declared.cert.Cert.Cert, Reading.cert_of}
 use Rattle.vote_terms.specs.Votes.{ReadVote}
 use Rattle.vote_doc.specs.Reading.{vote_of}
 use Rattle.consensus_terms.specs.declared.consensus.SignedConsensus.{SignedConsensus}
 use Rattle.consensus_doc.specs.Reading.{consensus_of}
-use Rattle.descriptor_doc.specs.declared.descriptor.Descriptor.{Descriptor}
-use Rattle.descriptor_doc.specs.Reading.{descriptor_of}
-use Rattle.detached_doc.specs.declared.detached.Detached.{Detached}
-use Rattle.detached_doc.specs.Reading.{detached_of}
+use Rattle.descriptor_doc.specs.{declared.descriptor.Descriptor.Descriptor, Reading.descriptor_of}
+use Rattle.detached_doc.specs.{declared.detached.Detached.Detached, Reading.detached_of}
 use Rattle.micro_desc.specs.declared.micro.Micro.{Micro}
 use Rattle.daemon_words.specs.declared.command.Kind.{Kind}
 use Rattle.daemon_words.specs.declared.command.Kind.TheVariants as kind

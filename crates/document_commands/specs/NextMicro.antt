@@ -1,17 +1,13 @@
 -- Where the next microdescriptor begins, behind the one that an input begins with: with the line of an `onion-key`, whatever is
 -- wrong with this line or its object (dir-spec, "Computing microdescriptors").
-use Rattle.std.specs.Prelude.{ℕ, nat_le, Bool, List, drop, codes, Option, Some, None, Result, Ok, Err, option_and_then, if◌then◌else◌}
-use Rattle.std.specs.List.{fold}
+use Rattle.std.specs.Prelude.{ℕ, nat_le, Bool, List, drop, codes, Option, Some, None, Result, Ok, Err, option_and_then}
+use Rattle.std.specs.{Prelude.if◌then◌else◌, List.fold}
 use Rattle.item_terms.specs.Items.{Item, items_of}
 use Rattle.dirdoc_grammar.specs.Reading.{first_line}
-use Rattle.blank_lines.specs.Blanks.{after_blanks}
-use Rattle.blank_lines.specs.Keywords.{has_keyword}
-use Rattle.frame_terms.specs.declared.fault.FrameFault.{FrameFault}
-use Rattle.frame_terms.specs.declared.fault.FrameReason.TheVariants.{Order}
-use Rattle.frame_terms.specs.declared.fault.ReadRefusal.{ReadRefusal}
-use Rattle.frame_terms.specs.declared.fault.ReadRefusal.TheVariants.{Frame, Memory}
-use Rattle.micro_desc.specs.declared.micro.Micro.{Micro}
-use Rattle.micro_desc.specs.Reading.{max_micro, micro_of}
+use Rattle.blank_lines.specs.{Blanks.after_blanks, Keywords.has_keyword}
+use Rattle.frame_terms.specs.declared.fault.{FrameFault.FrameFault, FrameReason.TheVariants.Order}
+use Rattle.frame_terms.specs.declared.fault.ReadRefusal.{ReadRefusal, TheVariants.{Frame, Memory}}
+use Rattle.micro_desc.specs.{declared.micro.Micro.Micro, Reading.{max_micro, micro_of}}
 
 -- the place after the last of these items, if there is one
 abbrev pub after_last : List Item → Option ℕ

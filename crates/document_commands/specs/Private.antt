@@ -1,14 +1,11 @@
 -- What the private functions of this crate return.
 use Rattle.std.specs.Prelude.{◌≡◌, ◌≤◌, List, ℕ, Some, Result, Ok, Err}
 use Rattle.item_terms.specs.Lines.{lines}
-use Rattle.bandwidth_file.specs.Files.{IsBandFile, first_fault}
-use Rattle.bandwidth_file.specs.declared.file.BandFile.{BandFile}
+use Rattle.bandwidth_file.specs.{Files.{IsBandFile, first_fault}, declared.file.BandFile.BandFile}
 use Rattle.bandwidth_file.specs.declared.refusal.BandFault.{BandFault}
 use Rattle.daemon_words.specs.declared.stop.Stop.{Stop}
 use Rattle.daemon_words.specs.declared.stop.Stop.TheVariants as stop
-use Rattle.frame_terms.specs.declared.fault.FrameFault.{FrameFault}
-use Rattle.frame_terms.specs.declared.fault.ReadRefusal.{ReadRefusal}
-use Rattle.frame_terms.specs.Refusals.{Fails}
+use Rattle.frame_terms.specs.{declared.fault.{FrameFault.FrameFault, ReadRefusal.ReadRefusal}, Refusals.Fails}
 use Rattle.document_commands.specs.Ends.{refusal_of}
 
 -- what was read is the document, or the refusal is its fault

@@ -2,9 +2,7 @@
 ghost use Rattle.std.specs.Prelude.{◌<◌, ◌^◌};
 ghost use Rattle.daemon_words.specs.Stops.{Answered};
 ghost use Rattle.bandwidth_file.specs.Texts.{text_of};
-ghost use Rattle.document_commands.specs.Answers.{check_text};
-ghost use Rattle.document_commands.specs.BandwidthFiles.{FileAnswers};
-ghost use Rattle.document_commands.specs.Private.{ReadsFile};
+ghost use Rattle.document_commands.specs.{Answers.check_text, BandwidthFiles.FileAnswers, Private.ReadsFile};
 
 use crate::one::OK;
 use bandwidth_file::{BandFault, BandFile, BandRefusal, read, write};

@@ -1,6 +1,5 @@
 // A key certificate, as the commands see it.
-ghost use Rattle.authority_certs.specs.Reading.{cert_of, max_cert};
-ghost use Rattle.authority_certs.specs.Texts.{cert_text};
+ghost use Rattle.authority_certs.specs.{Reading.{cert_of, max_cert}, Texts.cert_text};
 
 use crate::one::Document;
 use authority_certs::{Cert, CertFrame};

@@ -1,7 +1,5 @@
 // A consensus, as the commands see it.
-ghost use Rattle.consensus_terms.specs.Moments.{HasMoments};
-ghost use Rattle.consensus_terms.specs.Signed.{signed};
-ghost use Rattle.consensus_terms.specs.Texts.{facts_text};
+ghost use Rattle.consensus_terms.specs.{Moments.HasMoments, Signed.signed, Texts.facts_text};
 ghost use Rattle.consensus_doc.specs.Reading.{consensus_of, max_consensus};
 
 use crate::one::Document;

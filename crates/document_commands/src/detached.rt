@@ -1,6 +1,5 @@
 // Detached signatures, as the commands see them.
-ghost use Rattle.detached_doc.specs.Reading.{detached_of, max_detached};
-ghost use Rattle.detached_doc.specs.Texts.{detached_text};
+ghost use Rattle.detached_doc.specs.{Reading.{detached_of, max_detached}, Texts.detached_text};
 
 use crate::one::Document;
 use bytes::Bytes;

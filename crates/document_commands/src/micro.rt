@@ -1,6 +1,5 @@
 // A microdescriptor, as the commands see it.
-ghost use Rattle.micro_desc.specs.Reading.{max_micro};
-ghost use Rattle.micro_desc.specs.Texts.{micro_text};
+ghost use Rattle.micro_desc.specs.{Reading.max_micro, Texts.micro_text};
 ghost use Rattle.document_commands.specs.NextMicro.{first_micro, next_micro, unless_behind};
 
 use crate::next_micro::fault_of;

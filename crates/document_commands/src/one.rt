@@ -1,14 +1,12 @@
 // One document of any kind, and what the commands answer of it.
 ghost use Rattle.std.specs.Prelude.{◌≡◌, ◌≤◌, ◌<◌, ◌^◌, ℕ, List, Result, IfOk, length};
-ghost use Rattle.frame_terms.specs.declared.fault.FrameFault.{FrameFault};
-ghost use Rattle.frame_terms.specs.declared.fault.ReadRefusal.{ReadRefusal};
+ghost use Rattle.frame_terms.specs.declared.fault.{FrameFault.FrameFault, ReadRefusal.ReadRefusal};
 ghost use Rattle.fault_places.specs.Within.{HasFaultsWithin};
 ghost use Rattle.daemon_words.specs.Stops.{Answered};
-ghost use Rattle.document_commands.specs.Answers.{ReadAnswers, check_text};
+ghost use Rattle.document_commands.specs.{Answers.{ReadAnswers, check_text}, Ends.{ComesOf, made_of}, Private.IsOne};
+ghost use Rattle.document_commands.specs.Private.{ReadsFirst, ReadsOne};
 ghost use Rattle.blank_lines.specs.Blanks as blanks;
 ghost use Rattle.document_commands.specs.Documents as documents;
-ghost use Rattle.document_commands.specs.Ends.{ComesOf, made_of};
-ghost use Rattle.document_commands.specs.Private.{IsOne, ReadsFirst, ReadsOne};
 
 use crate::ends::{end_of, refusal_of};
 use blank_lines::after_blanks;

@@ -1,18 +1,13 @@
 -- The places of what is wrong with the items of a certificate, and of the first fault of one that stands alone.
-use Rattle.std.proofs.Common.{ℕ, length}
-use Rattle.std.specs.Prelude.{◌||◌, codes}
+use Rattle.std.{proofs.Common.{ℕ, length}, specs.Prelude.{◌||◌, codes}}
 use Rattle.item_terms.specs.Items.{Item}
-use Rattle.frame_values.specs.Lines.{argument_of, fingerprint_of, literal, time_of}
-use Rattle.frame_values.specs.Signatures.{has_words, object_of}
+use Rattle.frame_values.specs.{Lines.{argument_of, fingerprint_of, literal, time_of}, Signatures.{has_words, object_of}}
 use Rattle.frame_values.specs.declared.values.Value.{Value}
-use Rattle.authority_certs.specs.Tables.{cert_tables, cert_value}
-use Rattle.authority_certs.specs.declared.frame.CertKind.{CertKind}
+use Rattle.authority_certs.specs.{Tables.{cert_tables, cert_value}, declared.frame.CertKind.CertKind}
 use Rattle.authority_certs.specs.declared.frame.CertKind.TheVariants as kind
-use Rattle.fault_places.specs.Within.{FaultsStandIn, HasFaultsWithin}
-use Rattle.fault_places.proofs.FirstFaults.{first_faults}
-use Rattle.fault_places.proofs.ArgumentPlaces.{PlaceIn}
-use Rattle.fault_places.proofs.ItemPlaces.{IsItemIn, argument_in, fingerprint_in, item_in, literal_in, object_in, then_in, time_in}
-use Rattle.fault_places.proofs.Placed.{placed_in}
+use Rattle.fault_places.{specs.Within.{FaultsStandIn, HasFaultsWithin}, proofs.FirstFaults.first_faults}
+use Rattle.fault_places.proofs.{ArgumentPlaces.PlaceIn, ItemPlaces.{IsItemIn, argument_in, fingerprint_in, item_in}}
+use Rattle.fault_places.proofs.{ItemPlaces.{literal_in, object_in, then_in, time_in}, Placed.placed_in}
 
 -- whatever is wrong with an item of a certificate stands within so many bytes, whatever document the certificate is of
 pub certificate_in : (V : Type 0) (n : ℕ) (item : Item) → IsItemIn n item → (of_kind : CertKind)

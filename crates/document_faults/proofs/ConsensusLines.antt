@@ -1,31 +1,21 @@
 -- The places of what is wrong with the lines of a consensus that a vote has not, or has otherwise.
-use Rattle.std.proofs.Common.{◌≡◌, ℕ, ◌+◌, Bool, true, false, List, [], ◌∷◌, length, Option, Some, None, Result, Ok, Err}
-use Rattle.std.proofs.Common.{refl, subst}
-use Rattle.std.specs.Prelude.{codes, if◌then◌else◌}
-use Rattle.std.specs.Str.{bytes_eq}
-use Rattle.item_terms.specs.Bytes.{space}
-use Rattle.item_terms.specs.Items.{Item}
+use Rattle.std.proofs.Common.{◌≡◌, ℕ, ◌+◌, Bool, true, false, List, [], ◌∷◌, length, Option, Some, None, Result, Ok}
+use Rattle.std.{proofs.Common.{Err, refl, subst}, specs.{Prelude.{codes, if◌then◌else◌}, Str.bytes_eq}}
+use Rattle.item_terms.specs.{Bytes.space, Items.Item}
 use Rattle.dir_bytes.specs.Fields.{address, date, time_of_day}
-use Rattle.dir_values.specs.Digests.{digest1}
-use Rattle.dir_values.specs.Names.{is_nickname}
-use Rattle.dir_values.specs.Numbers.{port_of}
+use Rattle.dir_values.specs.{Digests.digest1, Names.is_nickname, Numbers.port_of}
 use Rattle.dir_values.specs.declared.algorithm.Algorithm.{Algorithm}
-use Rattle.frame_values.specs.Arguments.{Argument, arguments_of, front, next, others}
-use Rattle.frame_values.specs.Fields.{is_there, span_if}
-use Rattle.frame_values.specs.Signatures.{after_algorithm, algorithm_if, is_space, known_signature_of, signed_by, signed_if}
-use Rattle.frame_values.specs.Signatures.{space_of}
-use Rattle.frame_values.specs.declared.found.VoteSignature.{VoteSignature}
+use Rattle.frame_values.specs.{Arguments.{Argument, arguments_of, front, next, others}, Fields.{is_there, span_if}}
+use Rattle.frame_values.specs.Signatures.{after_algorithm, algorithm_if, is_space, known_signature_of, signed_by}
+use Rattle.frame_values.specs.{Signatures.{signed_if, space_of}, declared.found.VoteSignature.VoteSignature}
 use Rattle.relay_entries.specs.Fields.{identity}
-use Rattle.consensus_terms.specs.declared.flavour.Flavour.{Flavour}
-use Rattle.consensus_terms.specs.declared.flavour.Flavour.TheVariants.{Microdesc, Ns}
-use Rattle.consensus_frame.specs.Lines.{after_digest, bandwidth_by, bandwidth_of, digest_here, flavour_here, nothing_said}
-use Rattle.consensus_frame.specs.Lines.{relay_of, version_of, with_word, with_words, word_here}
-use Rattle.consensus_frame.specs.Tables.{signature_of}
-use Rattle.consensus_frame.specs.declared.line.Said.{Said}
-use Rattle.fault_places.proofs.ArgumentPlaces.{Begins, EachBegins, PlaceIn, others_begin}
-use Rattle.fault_places.proofs.ItemPlaces.{IsItemIn, all_begin, front_argument_begins, more_in, one_in, then_in}
+use Rattle.consensus_terms.specs.declared.flavour.Flavour.{Flavour, TheVariants.{Microdesc, Ns}}
+use Rattle.consensus_frame.specs.Lines.{after_digest, bandwidth_by, bandwidth_of, digest_here, flavour_here}
+use Rattle.consensus_frame.specs.Lines.{nothing_said, relay_of, version_of, with_word, with_words, word_here}
+use Rattle.consensus_frame.specs.{Tables.signature_of, declared.line.Said.Said}
+use Rattle.fault_places.proofs.{ArgumentPlaces.{Begins, EachBegins, PlaceIn, others_begin}, ItemPlaces.IsItemIn}
+use Rattle.fault_places.proofs.{ItemPlaces.{all_begin, front_argument_begins, more_in, one_in, then_in}, Placed.last_in}
 use Rattle.fault_places.proofs.ItemPlaces as places
-use Rattle.fault_places.proofs.Placed.{last_in}
 
 module _ (n : ℕ) where
   -- what is read behind what was read

@@ -1,44 +1,35 @@
 -- The places of what is wrong with the items of a consensus, and of the first fault of their document.
-use Rattle.std.proofs.Common.{ℕ, ◌≤◌, Bool, true, false, [], length, Result, Ok, Err}
-use Rattle.std.specs.Prelude.{codes, if◌then◌else◌}
+use Rattle.std.{proofs.Common.{ℕ, ◌≤◌, Bool, true, false, [], length, Result, Ok, Err}, specs.Prelude.codes}
+use Rattle.std.specs.Prelude.{if◌then◌else◌}
 use Rattle.std.specs.FinSet as set
 use Rattle.item_terms.specs.Items.{Item}
-use Rattle.dir_values.specs.Digests.{digest2, key_digest}
-use Rattle.dir_values.specs.FlagSets.{wrong_flag}
-use Rattle.dir_values.specs.Numbers.{number_of}
-use Rattle.list_values.specs.Params.{wrong_param}
-use Rattle.list_values.specs.Protocols.{wrong_protocol}
-use Rattle.list_values.specs.VersionLists.{wrong_version_list}
-use Rattle.value_groups.specs.ListLines.{params_of, protocols_of, versions_of}
+use Rattle.dir_values.specs.{Digests.{digest2, key_digest}, FlagSets.wrong_flag, Numbers.number_of}
+use Rattle.list_values.specs.{Params.wrong_param, Protocols.wrong_protocol, VersionLists.wrong_version_list}
+use Rattle.value_groups.specs.{ListLines.{params_of, protocols_of, versions_of}, Lines.random_of}
 use Rattle.frame_terms.specs.declared.fault.FrameFault.{FrameFault}
 use Rattle.frame_terms.specs.declared.fault.FrameReason.TheVariants as reason
-use Rattle.frame_values.specs.Arguments.{Argument, arguments_of, front}
-use Rattle.frame_values.specs.Lines.{delays_of, flags_of, literal, source_of, time_of}
-use Rattle.frame_values.specs.declared.values.Value.{Value}
+use Rattle.frame_values.specs.{Arguments.{Argument, arguments_of, front}, Lines.{delays_of, flags_of, literal}}
+use Rattle.frame_values.specs.{Lines.{source_of, time_of}, declared.values.Value.Value}
 use Rattle.frame_values.specs.declared.values.Value.TheVariants as value
-use Rattle.value_groups.specs.Lines.{random_of}
-use Rattle.relay_entries.specs.Lines.{entry_value, lifted_entry_value}
-use Rattle.relay_entries.specs.Listing.{fault_at, is_next, note_entry, with_key, with_relay}
-use Rattle.relay_entries.specs.declared.listed.Listed.{Listed}
-use Rattle.relay_entries.specs.declared.said.EdOpinion.TheVariants as opinion
+use Rattle.relay_entries.specs.{Lines.{entry_value, lifted_entry_value}, Listing.{fault_at, is_next, note_entry}}
+use Rattle.relay_entries.specs.{Listing.{with_key, with_relay}, declared.listed.Listed.Listed}
 use Rattle.relay_entries.specs.declared.said.EntryValue.{EntryValue}
+use Rattle.relay_entries.specs.declared.said.EdOpinion.TheVariants as opinion
 use Rattle.relay_entries.specs.declared.said.EntryValue.TheVariants as given
 use Rattle.consensus_terms.specs.declared.flavour.Flavour.{Flavour}
 use Rattle.consensus_frame.specs.Lines.{bandwidth_of, method_of, micro_digest_of, relay_of, version_of, vote_digest_of}
 use Rattle.consensus_frame.specs.Tables.{consensus_tables, note_value, signature_of, value_at, with_listed}
-use Rattle.consensus_frame.specs.declared.across.Across.{Across}
-use Rattle.consensus_frame.specs.declared.rows.ConsensusKind.{ConsensusKind}
-use Rattle.consensus_frame.specs.declared.rows.ConsensusKind.TheVariants as kind
+use Rattle.consensus_frame.specs.declared.{across.Across.Across, rows.ConsensusKind.ConsensusKind}
 use Rattle.consensus_frame.specs.declared.value.ConsensusValue.{ConsensusValue}
+use Rattle.consensus_frame.specs.declared.rows.ConsensusKind.TheVariants as kind
 use Rattle.consensus_frame.specs.declared.value.ConsensusValue.TheVariants as own
-use Rattle.fault_places.specs.Within.{FaultIn, FaultsStandIn, HasFaultsWithin}
-use Rattle.fault_places.proofs.FirstFaults.{first_faults}
+use Rattle.fault_places.{specs.Within.{FaultIn, FaultsStandIn, HasFaultsWithin}, proofs.FirstFaults.first_faults}
 use Rattle.fault_places.proofs.ArgumentPlaces.{PlaceIn, flag_in, param_in, protocol_in, versions_in}
-use Rattle.vote_parts.proofs.EntryPlaces.{entry_in}
 use Rattle.fault_places.proofs.ItemPlaces.{IsItemIn, all_begin, delays_in, first_begins, item_in, literal_in, one_in}
-use Rattle.fault_places.proofs.ItemPlaces.{random_in, rest_in, source_in, then_in, time_in}
+use Rattle.fault_places.proofs.{ItemPlaces.{random_in, rest_in, source_in, then_in, time_in}, Placed.last_in}
+use Rattle.fault_places.proofs.Placed.{placed_in}
+use Rattle.vote_parts.proofs.EntryPlaces.{entry_in}
 use Rattle.document_faults.proofs.ConsensusLines.{bandwidth_in, relay_in, signature_in, version_in}
-use Rattle.fault_places.proofs.Placed.{last_in, placed_in}
 
 -- ---- what an item says
 

@@ -1,27 +1,20 @@
 -- The first fault of a consensus, of a microdescriptor and of a certificate stands within its bytes.
 use Rattle.std.proofs.Common.{◌≡◌, ℕ, ◌≤◌, List, length, Result, Ok, Err, refl, ap, ◌∙◌}
 use Rattle.item_terms.specs.Items.{items_of}
-use Rattle.frame_terms.specs.declared.fault.FrameFault.{FrameFault}
-use Rattle.frame_terms.specs.declared.fault.ReadRefusal.{ReadRefusal}
-use Rattle.frame_terms.specs.declared.fault.ReadRefusal.TheVariants.{Frame}
+use Rattle.frame_terms.specs.declared.fault.{FrameFault.FrameFault, ReadRefusal.{ReadRefusal, TheVariants.Frame}}
 use Rattle.frame_terms.specs.Documents.{Document, document_of, finish}
 use Rattle.frame_values.specs.declared.values.Value.{Value}
 use Rattle.authority_certs.specs.Heads as cert_heads
-use Rattle.authority_certs.specs.Reading.{max_cert, with_cert}
-use Rattle.authority_certs.specs.Tables.{cert_tables}
+use Rattle.authority_certs.specs.{Reading.{max_cert, with_cert}, Tables.cert_tables}
 use Rattle.micro_desc.specs.Heads as micro_heads
-use Rattle.micro_desc.specs.Reading.{max_micro, with_micro}
-use Rattle.micro_desc.specs.Tables.{micro_tables}
-use Rattle.micro_desc.specs.declared.said.MicroValue.{MicroValue}
+use Rattle.micro_desc.specs.{Reading.{max_micro, with_micro}, Tables.micro_tables, declared.said.MicroValue.MicroValue}
 use Rattle.consensus_terms.specs.declared.flavour.Flavour.{Flavour}
-use Rattle.consensus_frame.specs.Tables.{consensus_tables}
-use Rattle.consensus_frame.specs.declared.rows.ConsensusSection.{ConsensusSection}
+use Rattle.consensus_frame.specs.{Tables.consensus_tables, declared.rows.ConsensusSection.ConsensusSection}
 use Rattle.consensus_frame.specs.declared.value.ConsensusValue.{ConsensusValue}
-use Rattle.consensus_doc.specs.Drafts.{no_draft, with_section}
-use Rattle.consensus_doc.specs.Reading.{consensus_as, flavour_of, max_consensus, with_consensus}
+use Rattle.consensus_doc.specs.{Drafts.{no_draft, with_section}, Reading.{consensus_as, flavour_of, max_consensus}}
+use Rattle.consensus_doc.specs.Reading.{with_consensus}
 use Rattle.document_faults.specs.Within.{CertFaultsStandWithin, ConsensusFaultsStandWithin, MicroFaultsStandWithin}
-use Rattle.document_faults.proofs.CertificatePlaces.{cert_faults}
-use Rattle.document_faults.proofs.ConsensusPlaces.{consensus_faults}
+use Rattle.document_faults.proofs.{CertificatePlaces.cert_faults, ConsensusPlaces.consensus_faults}
 use Rattle.document_faults.proofs.MicroPlaces.{micro_faults}
 
 abbrev refused : {A : Type 0} → ReadRefusal → Result A ReadRefusal

@@ -1,23 +1,16 @@
 -- The places of what is wrong with the items of a microdescriptor, and of the first fault of their document.
-use Rattle.std.proofs.Common.{ℕ, Bool, true, false, length, Ok, Err}
-use Rattle.std.specs.Prelude.{codes, if◌then◌else◌}
+use Rattle.std.{proofs.Common.{ℕ, Bool, true, false, length, Ok, Err}, specs.Prelude.{codes, if◌then◌else◌}}
 use Rattle.std.specs.Str.{bytes_eq}
 use Rattle.item_terms.specs.Items.{Item}
 use Rattle.frame_values.specs.Arguments.{Argument, arguments_of, field, front, next, others}
 use Rattle.relay_entries.specs.Fields.{identity}
-use Rattle.descriptor_frame.specs.Fields.{key}
-use Rattle.descriptor_frame.specs.Lines.{first_of}
-use Rattle.micro_desc.specs.Lines.{id_of, value_at}
-use Rattle.micro_desc.specs.Tables.{micro_tables}
-use Rattle.micro_desc.specs.declared.said.MicroId.{MicroId}
-use Rattle.micro_desc.specs.declared.said.MicroId.TheVariants.{Ed25519, Rsa1024}
-use Rattle.micro_desc.specs.declared.said.MicroKind.{MicroKind}
+use Rattle.descriptor_frame.specs.{Fields.key, Lines.first_of}
+use Rattle.micro_desc.specs.{Lines.{id_of, value_at}, Tables.micro_tables, declared.said.MicroId.MicroId}
+use Rattle.micro_desc.specs.declared.said.{MicroId.TheVariants.{Ed25519, Rsa1024}, MicroKind.MicroKind}
 use Rattle.micro_desc.specs.declared.said.MicroKind.TheVariants as kind
-use Rattle.fault_places.specs.Within.{FaultsStandIn, HasFaultsWithin}
-use Rattle.fault_places.proofs.FirstFaults.{first_faults}
-use Rattle.fault_places.proofs.ArgumentPlaces.{PlaceIn}
-use Rattle.fault_places.proofs.ItemPlaces.{IsItemIn, first_begins, item_in, one_in, second_begins, then_in}
-use Rattle.fault_places.proofs.Placed.{last_in, placed_in}
+use Rattle.fault_places.{specs.Within.{FaultsStandIn, HasFaultsWithin}, proofs.FirstFaults.first_faults}
+use Rattle.fault_places.proofs.{ArgumentPlaces.PlaceIn, ItemPlaces.{IsItemIn, first_begins, item_in, one_in}}
+use Rattle.fault_places.proofs.{ItemPlaces.{second_begins, then_in}, Placed.{last_in, placed_in}}
 
 module _ (n : ℕ) (item : Item) (is : IsItemIn n item) where
   abbrev first : Argument

@@ -1,7 +1,6 @@
 -- Where the first fault of a consensus, of a microdescriptor and of a certificate stands: within its bytes.
 use Rattle.std.specs.Prelude.{◌≡◌, ℕ, ◌≤◌, List, length, Err}
-use Rattle.frame_terms.specs.declared.fault.FrameFault.{FrameFault}
-use Rattle.frame_terms.specs.declared.fault.ReadRefusal.TheVariants.{Frame}
+use Rattle.frame_terms.specs.declared.fault.{FrameFault.FrameFault, ReadRefusal.TheVariants.Frame}
 use Rattle.authority_certs.specs.Reading.{cert_of}
 use Rattle.consensus_doc.specs.Reading.{consensus_of}
 use Rattle.micro_desc.specs.Reading.{micro_of}

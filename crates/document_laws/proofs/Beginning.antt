@@ -1,36 +1,18 @@
 -- A section from its first item on, and one that comes behind another.
-use Rattle.std.proofs.Common.{◌≡◌, ℕ, suc, true, false, List, [], ◌∷◌, ◌++◌, Option, None, refl, sym, ap, subst}
-use Rattle.std.proofs.Common.{◌∙◌, append_assoc, inl, inr}
-use Rattle.std.specs.Prelude.{◌⊎◌}
-use Rattle.item_terms.specs.declared.fault.DocFault.{DocFault}
-use Rattle.item_terms.specs.Items.{Item}
-use Rattle.frame_terms.specs.declared.document.Group.{Group}
-use Rattle.frame_terms.specs.declared.document.Taken.{Taken}
-use Rattle.frame_terms.specs.declared.keyword.Keyword.{Keyword}
-use Rattle.frame_terms.specs.declared.section.Again.{Again}
+use Rattle.std.proofs.Common.{◌≡◌, ℕ, suc, true, false, List, [], ◌∷◌, ◌++◌, Option, None, refl, sym, ap, subst, ◌∙◌}
+use Rattle.std.{proofs.Common.{append_assoc, inl, inr}, specs.Prelude.◌⊎◌}
+use Rattle.item_terms.specs.{declared.fault.DocFault.DocFault, Items.Item}
+use Rattle.frame_terms.specs.declared.{document.{Group.Group, Taken.Taken}, keyword.Keyword.Keyword}
+use Rattle.frame_terms.specs.{declared.section.Again.Again, Documents.{Document, group}, Keywords.same}
+use Rattle.frame_terms.specs.{Order.{following_sections, opener}, Tables.Tables}
 use Rattle.frame_terms.specs.declared.section.Again.TheVariants as again
-use Rattle.frame_terms.specs.Documents.{Document, group}
-use Rattle.frame_terms.specs.Keywords.{same}
-use Rattle.frame_terms.specs.Order.{following_sections, opener}
-use Rattle.frame_terms.specs.Tables.{Tables}
 use Rattle.frame_laws.proofs.KnownWords.{same-sym}
-use Rattle.document_laws.specs.Counts.{RowsStand}
-use Rattle.document_laws.specs.Items.{IsItemOf}
-use Rattle.document_laws.specs.Order.{AreInOrder, MayStand, Part, items_of}
-use Rattle.document_laws.proofs.Lists.{IsAfter, following_is, in_order_skipped, opened_after}
-use Rattle.document_laws.proofs.Openers.{row_of-one, row_of-same}
-use Rattle.document_laws.proofs.Parts.{IsListed, names}
-use Rattle.document_laws.proofs.Rules.{behind}
-use Rattle.document_laws.proofs.Ways.{IsAgain, IsLater}
-use Rattle.document_laws.specs.Clear.{AreClear}
-use Rattle.document_laws.specs.Parts.{AreOthers, Stands}
-use Rattle.document_laws.proofs.Following.{ComeBehind}
-use Rattle.document_laws.proofs.Growing.{done_tail}
-use Rattle.document_laws.proofs.Middles.{Extends}
-use Rattle.document_laws.proofs.Places.{follows, regarded_of}
-use Rattle.document_laws.proofs.Rows.{named}
-use Rattle.document_laws.proofs.Steps.{same-both}
-use Rattle.document_laws.proofs.Tails.{HasAll, HasTail, ends_more, ends_so}
+use Rattle.document_laws.specs.{Counts.RowsStand, Items.IsItemOf, Order.{AreInOrder, MayStand, Part, items_of}}
+use Rattle.document_laws.{specs.{Clear.AreClear, Parts.{AreOthers, Stands}}, proofs.Lists.{IsAfter, following_is}}
+use Rattle.document_laws.proofs.{Lists.{in_order_skipped, opened_after}, Openers.{row_of-one, row_of-same}}
+use Rattle.document_laws.proofs.{Parts.{IsListed, names}, Rules.behind, Ways.{IsAgain, IsLater}, Following.ComeBehind}
+use Rattle.document_laws.proofs.{Growing.done_tail, Middles.Extends, Places.{follows, regarded_of}, Rows.named}
+use Rattle.document_laws.proofs.{Steps.same-both, Tails.{HasAll, HasTail, ends_more, ends_so}}
 
 -- where more of a section may stand, one more may
 pub may_more : (more : Again) (number : ℕ) → (number ≡ 0) ⊎ (more ≡ again.Section) → MayStand more (suc number)

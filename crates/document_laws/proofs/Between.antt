@@ -1,31 +1,15 @@
 -- Items that stand between a section's first and its last are read as its items.
-use Rattle.std.proofs.Common.{◌≡◌, ℕ, true, List, [], ◌∷◌, ◌++◌, Option, Result, Ok, refl, sym, ap}
-use Rattle.std.proofs.Common.{◌∙◌, append-nil, append_assoc, inl, inr}
-use Rattle.std.specs.List.{AllByRecursion}
-use Rattle.item_terms.specs.declared.fault.DocFault.{DocFault}
-use Rattle.item_terms.specs.Items.{Item}
-use Rattle.frame_terms.specs.declared.document.Group.{Group}
-use Rattle.frame_terms.specs.declared.document.Made.{Made}
-use Rattle.frame_terms.specs.declared.document.Made.TheVariants.{Passes, Pushes}
-use Rattle.frame_terms.specs.declared.document.Taken.{Taken}
-use Rattle.frame_terms.specs.declared.fault.ReadRefusal.{ReadRefusal}
-use Rattle.frame_terms.specs.declared.keyword.Keyword.{Keyword}
-use Rattle.frame_terms.specs.Decisions.{made_by}
-use Rattle.frame_terms.specs.Documents.{read_items}
-use Rattle.frame_terms.specs.Keywords.{same}
-use Rattle.frame_terms.specs.Order.{inner, opener}
-use Rattle.frame_terms.specs.Standing.{enters}
+use Rattle.std.proofs.Common.{◌≡◌, ℕ, true, List, [], ◌∷◌, ◌++◌, Option, Result, Ok, refl, sym, ap, ◌∙◌, append-nil}
+use Rattle.std.{proofs.Common.{append_assoc, inl, inr}, specs.List.AllByRecursion}
+use Rattle.item_terms.specs.{declared.fault.DocFault.DocFault, Items.Item}
+use Rattle.frame_terms.specs.declared.document.{Group.Group, Made.{Made, TheVariants.{Passes, Pushes}}, Taken.Taken}
+use Rattle.frame_terms.specs.{declared.{fault.ReadRefusal.ReadRefusal, keyword.Keyword.Keyword}, Decisions.made_by}
+use Rattle.frame_terms.specs.{Documents.read_items, Keywords.same, Order.{inner, opener}, Standing.enters}
 use Rattle.frame_terms.specs.Tables.{Tables}
-use Rattle.frame_laws.proofs.Reading.{read_on}
-use Rattle.frame_laws.proofs.Steps.{opening}
-use Rattle.document_laws.specs.Counts.{RowsStand}
-use Rattle.document_laws.specs.Items.{IsItemOf}
-use Rattle.document_laws.proofs.Openers.{row_of-same}
-use Rattle.document_laws.specs.Clear.{AreClear}
-use Rattle.document_laws.specs.Parts.{AreBetween, IsOrdinary}
-use Rattle.document_laws.proofs.Places.{IsAt, IsNear, inner-one, never_beyond}
-use Rattle.document_laws.proofs.Rows.{is_new, named, not_opener}
-use Rattle.document_laws.proofs.Steps.{goes_in, passes}
+use Rattle.frame_laws.proofs.{Reading.read_on, Steps.opening}
+use Rattle.document_laws.specs.{Counts.RowsStand, Items.IsItemOf, Clear.AreClear, Parts.{AreBetween, IsOrdinary}}
+use Rattle.document_laws.proofs.{Openers.row_of-same, Places.{IsAt, IsNear, inner-one, never_beyond}, Rows.is_new}
+use Rattle.document_laws.proofs.{Rows.{named, not_opener}, Steps.{goes_in, passes}}
 
 module _ {S K V X : Type 0} (tables : Tables S K V X) (clear : AreClear tables) where
   -- what an item's keyword begins is what its row's does

@@ -1,28 +1,16 @@
 -- In each section of a document each row's items stand as often as the row asks for.
-use Rattle.std.proofs.Common.{◌≡◌, ℕ, ◌+◌, ◌≤◌, Bool, true, false, List, [], ◌∷◌, ◌++◌, Option, Some, None, refl, sym, ap}
-use Rattle.std.proofs.Common.{◌∙◌, arith, subst}
-use Rattle.std.specs.Prelude.{All, not, ◌&&◌}
-use Rattle.std.proofs.lemmas.List.Elements.{All-cons, All-nil}
-use Rattle.item_terms.specs.declared.fault.DocFault.{DocFault}
-use Rattle.item_terms.specs.Items.{Item}
-use Rattle.frame_terms.specs.declared.document.Group.{Group}
-use Rattle.frame_terms.specs.declared.document.Open.{Open}
-use Rattle.frame_terms.specs.declared.document.Taken.{Taken}
-use Rattle.frame_terms.specs.declared.keyword.Keyword.{Keyword}
-use Rattle.frame_terms.specs.declared.row.Row.{Row}
-use Rattle.frame_terms.specs.Documents.{Document, group}
-use Rattle.frame_terms.specs.Keywords.{same}
-use Rattle.frame_terms.specs.Order.{following_sections, must_open}
-use Rattle.frame_terms.specs.Rows.{is_many, is_one}
-use Rattle.frame_terms.specs.Sections.{lacking_keyword, row_of, stands}
-use Rattle.frame_terms.specs.Tables.{Tables}
+use Rattle.std.proofs.Common.{◌≡◌, ℕ, ◌+◌, ◌≤◌, Bool, true, false, List, [], ◌∷◌, ◌++◌, Option, Some, None, refl, sym}
+use Rattle.std.{proofs.{Common.{ap, ◌∙◌, arith, subst}, lemmas.List.Elements.{All-cons, All-nil}}, specs.Prelude.All}
+use Rattle.std.specs.Prelude.{not, ◌&&◌}
+use Rattle.item_terms.specs.{declared.fault.DocFault.DocFault, Items.Item}
+use Rattle.frame_terms.specs.declared.{document.{Group.Group, Open.Open, Taken.Taken}, keyword.Keyword.Keyword}
+use Rattle.frame_terms.specs.{declared.row.Row.Row, Documents.{Document, group}, Keywords.same}
+use Rattle.frame_terms.specs.{Order.{following_sections, must_open}, Rows.{is_many, is_one}, Sections.lacking_keyword}
+use Rattle.frame_terms.specs.{Sections.{row_of, stands}, Tables.Tables}
 use Rattle.frame_laws.proofs.KnownWords.{same-sym, same-through}
-use Rattle.document_laws.specs.Counts.{RowsStand, RowsStandAsOften, times}
-use Rattle.document_laws.proofs.Makes.{neither}
-use Rattle.document_laws.proofs.Openers.{row_of-one, row_of-same}
-use Rattle.document_laws.proofs.Rules.{Rules, holds}
-use Rattle.document_laws.proofs.Times.{is_count, none_stands, once, row_fails, some_stands, times-more, times-same}
-use Rattle.document_laws.proofs.Ways.{IsAccepted, IsEnding}
+use Rattle.document_laws.{specs.Counts.{RowsStand, RowsStandAsOften, times}, proofs.{Makes.neither, Openers.row_of-one}}
+use Rattle.document_laws.proofs.{Openers.row_of-same, Rules.{Rules, holds}, Times.{is_count, none_stands, once}}
+use Rattle.document_laws.proofs.{Times.{row_fails, some_stands, times-more, times-same}, Ways.{IsAccepted, IsEnding}}
 
 module _ {K : Type 0} where
   -- whether a row that is there counts many

@@ -1,41 +1,20 @@
 -- A section inside another, from the item that begins it to its last.
-use Rattle.std.proofs.Common.{◌≡◌, ℕ, ◌+◌, ◌-◌, ◌≤◌, Bool, true, false, List, [], ◌∷◌, ◌++◌, Option, Some, None, refl, sym, ap}
-use Rattle.std.proofs.Common.{subst, ◌∙◌, append_assoc, arith, inr}
-use Rattle.std.specs.Prelude.{nat_lt, not, ◌&&◌, ◌||◌, if◌then◌else◌}
+use Rattle.std.proofs.Common.{◌≡◌, ℕ, ◌+◌, ◌-◌, ◌≤◌, Bool, true, false, List, [], ◌∷◌, ◌++◌, Option, Some, None, refl}
+use Rattle.std.proofs.{Common.{sym, ap, subst, ◌∙◌, append_assoc, arith, inr}, lemmas.Bool.ltb-false}
+use Rattle.std.{proofs.lemmas.List.Folds.list_any-append, specs.Prelude.{nat_lt, not, ◌&&◌, ◌||◌, if◌then◌else◌}}
 use Rattle.std.specs.List.{AllByRecursion}
-use Rattle.std.proofs.lemmas.Bool.{ltb-false}
-use Rattle.std.proofs.lemmas.List.Folds.{list_any-append}
-use Rattle.item_terms.specs.declared.fault.DocFault.{DocFault}
-use Rattle.item_terms.specs.Items.{Item}
-use Rattle.frame_terms.specs.declared.document.Group.{Group}
-use Rattle.frame_terms.specs.declared.document.Taken.{Taken}
-use Rattle.frame_terms.specs.declared.fault.FrameFault.{FrameFault}
-use Rattle.frame_terms.specs.declared.fault.FrameReason.TheVariants.{TooMany}
-use Rattle.frame_terms.specs.declared.keyword.Keyword.{Keyword}
-use Rattle.frame_terms.specs.declared.row.Limit.{Limit}
-use Rattle.frame_terms.specs.declared.row.Row.{Row}
-use Rattle.frame_terms.specs.Decisions.{beyond, beyond_inner, beyond_inside, section_inside}
-use Rattle.frame_terms.specs.Documents.{Document, group}
-use Rattle.frame_terms.specs.Keywords.{same, word_of}
-use Rattle.frame_terms.specs.Order.{inner, is_keyword, opener}
-use Rattle.frame_terms.specs.Rows.{is_many, limit_number}
-use Rattle.frame_terms.specs.Sections.{stands}
-use Rattle.frame_terms.specs.Tables.{Tables}
+use Rattle.item_terms.specs.{declared.fault.DocFault.DocFault, Items.Item}
+use Rattle.frame_terms.specs.declared.{document.{Group.Group, Taken.Taken}, fault.FrameFault.FrameFault}
+use Rattle.frame_terms.specs.declared.{fault.FrameReason.TheVariants.TooMany, keyword.Keyword.Keyword, row.Limit.Limit}
+use Rattle.frame_terms.specs.{declared.row.Row.Row, Decisions.{beyond, beyond_inner, beyond_inside, section_inside}}
+use Rattle.frame_terms.specs.{Documents.{Document, group}, Keywords.{same, word_of}, Order.{inner, is_keyword, opener}}
+use Rattle.frame_terms.specs.{Rows.{is_many, limit_number}, Sections.stands, Tables.Tables}
 use Rattle.frame_laws.proofs.KnownWords.{same-sym, same-through}
-use Rattle.document_laws.specs.Counts.{RowsStand}
-use Rattle.document_laws.specs.Items.{IsItemOf}
-use Rattle.document_laws.specs.Order.{items_of, sections_of}
-use Rattle.document_laws.proofs.Openers.{row_of-one}
-use Rattle.document_laws.proofs.Rules.{behind}
-use Rattle.document_laws.proofs.Ways.{IsAccepted}
-use Rattle.document_laws.specs.Clear.{AreClear}
-use Rattle.document_laws.specs.Parts.{AreOthers, EndsWithin, Stands}
-use Rattle.document_laws.proofs.Between.{word_begins}
-use Rattle.document_laws.proofs.Growing.{last_has}
-use Rattle.document_laws.proofs.Middles.{NoneInside}
-use Rattle.document_laws.proofs.Places.{entrance_of, opens_inside}
-use Rattle.document_laws.proofs.Rows.{named}
-use Rattle.document_laws.proofs.Tails.{EndsBehind, HasInnerTail, HasTail, ends_front}
+use Rattle.document_laws.specs.{Counts.RowsStand, Items.IsItemOf, Order.{items_of, sections_of}, Clear.AreClear}
+use Rattle.document_laws.{specs.Parts.{AreOthers, EndsWithin, Stands}, proofs.{Openers.row_of-one, Rules.behind}}
+use Rattle.document_laws.proofs.{Ways.IsAccepted, Between.word_begins, Growing.last_has, Middles.NoneInside}
+use Rattle.document_laws.proofs.{Places.{entrance_of, opens_inside}, Rows.named, Tails.{EndsBehind, HasInnerTail}}
+use Rattle.document_laws.proofs.Tails.{HasTail, ends_front}
 
 -- ---- limits
 

@@ -1,37 +1,20 @@
 -- Each document that is read is parts, one behind the other: its sections, and all of it.
-use Rattle.std.proofs.Common.{◌≡◌, ℕ, true, List, [], ◌∷◌, ◌++◌, Option, Some, None, Ok, refl, sym, ap, suc, subst}
-use Rattle.std.proofs.Common.{◌∙◌}
-use Rattle.std.proofs.lemmas.Bool.{false≢true}
-use Rattle.std.proofs.lemmas.Option.{none-some}
-use Rattle.item_terms.specs.declared.fault.DocFault.{DocFault}
-use Rattle.item_terms.specs.Items.{Item}
-use Rattle.frame_terms.specs.declared.document.Group.{Group}
-use Rattle.frame_terms.specs.declared.document.Open.{Open}
-use Rattle.frame_terms.specs.declared.document.Taken.{Taken}
-use Rattle.frame_terms.specs.Decisions.{beyond_inner}
-use Rattle.frame_terms.specs.Documents.{Document, group}
-use Rattle.frame_terms.specs.Keywords.{same, word_of}
-use Rattle.frame_terms.specs.Order.{following_sections, must_open, opener}
-use Rattle.frame_terms.specs.Sections.{lacking_keyword}
-use Rattle.frame_terms.specs.Tables.{Tables}
+use Rattle.std.proofs.Common.{◌≡◌, ℕ, true, List, [], ◌∷◌, ◌++◌, Option, Some, None, Ok, refl, sym, ap, suc, subst, ◌∙◌}
+use Rattle.std.proofs.lemmas.{Bool.false≢true, Option.none-some}
+use Rattle.item_terms.specs.{declared.fault.DocFault.DocFault, Items.Item}
+use Rattle.frame_terms.specs.{declared.document.{Group.Group, Open.Open, Taken.Taken}, Decisions.beyond_inner}
+use Rattle.frame_terms.specs.{Documents.{Document, group}, Keywords.{same, word_of}, Order.following_sections}
+use Rattle.frame_terms.specs.{Order.{must_open, opener}, Sections.lacking_keyword, Tables.Tables}
 use Rattle.frame_laws.proofs.KnownWords.{same-sym}
-use Rattle.document_laws.specs.Order.{AreInOrder}
-use Rattle.document_laws.proofs.Counting.{stand_as_often}
-use Rattle.document_laws.proofs.Makes.{neither}
-use Rattle.document_laws.proofs.Parts.{IsListed, names}
-use Rattle.document_laws.proofs.Placing.{IsNotEnded, not_ended_more, not_ended_opener, opens_listed}
-use Rattle.document_laws.proofs.Rules.{behind}
-use Rattle.document_laws.proofs.Ways.{IsBeginning, IsEnding, IsEntering, IsOpening}
-use Rattle.document_laws.specs.Clear.{AreClear}
-use Rattle.document_laws.specs.Documents.{AreExact, DocumentsAreAll}
-use Rattle.document_laws.proofs.Beginning.{begins_all, may_more, opener_regarded, opens_tail}
-use Rattle.document_laws.proofs.Entering.{enters_tail, entrance_new, entrance_within, leaves_inner, stands_last, within_of}
-use Rattle.document_laws.proofs.Places.{end_of, follows, opens_inside}
-use Rattle.document_laws.proofs.Reading.{documents_are_read}
-use Rattle.document_laws.proofs.Resting.{RestOf, adds_rest, has_rest, closes_rest, count_first, count_rest}
-use Rattle.document_laws.proofs.Resting.{ends_rest, has_last, no_last, passes_rest, stops_rest}
-use Rattle.document_laws.proofs.Tails.{HasAll}
-use Rattle.document_laws.proofs.Walk.{Rules, holds}
+use Rattle.document_laws.specs.{Order.AreInOrder, Clear.AreClear, Documents.{AreExact, DocumentsAreAll}}
+use Rattle.document_laws.proofs.{Counting.stand_as_often, Makes.neither, Parts.{IsListed, names}, Placing.IsNotEnded}
+use Rattle.document_laws.proofs.{Placing.{not_ended_more, not_ended_opener, opens_listed}, Rules.behind}
+use Rattle.document_laws.proofs.{Ways.{IsBeginning, IsEnding, IsEntering, IsOpening}, Beginning.{begins_all, may_more}}
+use Rattle.document_laws.proofs.{Beginning.{opener_regarded, opens_tail}, Entering.{enters_tail, entrance_new}}
+use Rattle.document_laws.proofs.{Entering.{entrance_within, leaves_inner, stands_last, within_of}, Places.end_of}
+use Rattle.document_laws.proofs.{Places.{follows, opens_inside}, Reading.documents_are_read, Resting.RestOf}
+use Rattle.document_laws.proofs.Resting.{adds_rest, has_rest, closes_rest, count_first, count_rest, ends_rest, has_last}
+use Rattle.document_laws.proofs.{Resting.{no_last, passes_rest, stops_rest}, Tails.HasAll, Walk.{Rules, holds}}
 
 module _ {S K V X : Type 0} (tables : Tables S K V X) (clear : AreClear tables) where
   -- a section does not end with its opener

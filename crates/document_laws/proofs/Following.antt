@@ -1,15 +1,10 @@
 -- The sections that stand behind one, in the order of their table.
 use Rattle.std.proofs.Common.{◌≡◌, ℕ, zero, suc, Bool, true, false, List, [], ◌∷◌, ◌++◌, Some, None, refl, sym, ap}
-use Rattle.std.proofs.Common.{subst, ◌∙◌, append_assoc, inl, inr}
-use Rattle.std.specs.Prelude.{◌⊎◌, replicate, if◌then◌else◌}
-use Rattle.frame_terms.specs.declared.section.Again.{Again}
-use Rattle.frame_terms.specs.declared.section.Again.TheVariants as again
-use Rattle.frame_terms.specs.Order.{following_sections, must_open, opener, repeats}
+use Rattle.std.{proofs.Common.{subst, ◌∙◌, append_assoc, inl, inr}, specs.Prelude.{◌⊎◌, replicate, if◌then◌else◌}}
+use Rattle.frame_terms.specs.{declared.section.Again.Again, Order.{following_sections, must_open, opener, repeats}}
 use Rattle.frame_terms.specs.Tables.{Tables}
-use Rattle.document_laws.specs.Order.{AreInOrder, MayStand}
-use Rattle.document_laws.proofs.Lists.{IsAfter}
-use Rattle.document_laws.proofs.Parts.{IsListed}
-use Rattle.document_laws.specs.Clear.{AreClear}
+use Rattle.frame_terms.specs.declared.section.Again.TheVariants as again
+use Rattle.document_laws.{specs.{Order.{AreInOrder, MayStand}, Clear.AreClear}, proofs.{Lists.IsAfter, Parts.IsListed}}
 use Rattle.document_laws.proofs.Places.{follows}
 
 -- ---- so many of a section

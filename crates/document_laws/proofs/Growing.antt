@@ -1,25 +1,13 @@
 -- The rest of a document from a section on, with one item more in front.
-use Rattle.std.proofs.Common.{◌≡◌, ℕ, true, List, [], ◌∷◌, ◌++◌, Option, Some, None, refl, sym, ap, subst}
-use Rattle.std.proofs.Common.{◌∙◌, append_assoc, append-nil, inl, inr}
-use Rattle.std.proofs.lemmas.Bool.{false≢true}
-use Rattle.item_terms.specs.declared.fault.DocFault.{DocFault}
-use Rattle.item_terms.specs.Items.{Item}
-use Rattle.frame_terms.specs.declared.document.Group.{Group}
-use Rattle.frame_terms.specs.declared.document.Taken.{Taken}
-use Rattle.frame_terms.specs.declared.keyword.Keyword.{Keyword}
-use Rattle.frame_terms.specs.Documents.{Document, group}
-use Rattle.frame_terms.specs.Order.{following_sections, is_keyword}
-use Rattle.frame_terms.specs.Tables.{Tables}
-use Rattle.document_laws.specs.Counts.{RowsStand}
-use Rattle.document_laws.specs.Order.{AreInOrder, Part, items_of, sections_of}
-use Rattle.document_laws.specs.Passing.{IsPassedIn}
-use Rattle.document_laws.proofs.Parts.{names}
-use Rattle.document_laws.proofs.Rules.{alone}
-use Rattle.document_laws.specs.Documents.{AreParts, EndsAt}
-use Rattle.document_laws.specs.Parts.{EndsWithin, HasLast, IsOrdinary, Stands}
-use Rattle.document_laws.proofs.Following.{ComeBehind}
-use Rattle.document_laws.proofs.Middles.{Extends}
-use Rattle.document_laws.proofs.Tails.{EndsBehind, HasInnerTail, HasTail, ends_more}
+use Rattle.std.proofs.Common.{◌≡◌, ℕ, true, List, [], ◌∷◌, ◌++◌, Option, Some, None, refl, sym, ap, subst, ◌∙◌}
+use Rattle.std.proofs.{Common.{append_assoc, append-nil, inl, inr}, lemmas.Bool.false≢true}
+use Rattle.item_terms.specs.{declared.fault.DocFault.DocFault, Items.Item}
+use Rattle.frame_terms.specs.declared.{document.{Group.Group, Taken.Taken}, keyword.Keyword.Keyword}
+use Rattle.frame_terms.specs.{Documents.{Document, group}, Order.{following_sections, is_keyword}, Tables.Tables}
+use Rattle.document_laws.specs.{Counts.RowsStand, Order.{AreInOrder, Part, items_of, sections_of}, Passing.IsPassedIn}
+use Rattle.document_laws.specs.{Documents.{AreParts, EndsAt}, Parts.{EndsWithin, HasLast, IsOrdinary, Stands}}
+use Rattle.document_laws.proofs.{Parts.names, Rules.alone, Following.ComeBehind, Middles.Extends, Tails.EndsBehind}
+use Rattle.document_laws.proofs.Tails.{HasInnerTail, HasTail, ends_more}
 
 module _ {S K V X : Type 0} (tables : Tables S K V X) where
   -- no section behind one

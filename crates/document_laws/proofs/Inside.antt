@@ -1,31 +1,16 @@
 -- A section inside another is read, and the other goes on.
-use Rattle.std.proofs.Common.{◌≡◌, ℕ, true, List, [], ◌∷◌, ◌++◌, Option, Some, None, Result, Ok, sym, ap}
-use Rattle.std.proofs.Common.{subst, ◌∙◌, append_assoc, inl, inr}
-use Rattle.std.specs.List.{AllByRecursion}
-use Rattle.item_terms.specs.declared.fault.DocFault.{DocFault}
-use Rattle.item_terms.specs.Items.{Item}
-use Rattle.frame_terms.specs.declared.document.Group.{Group}
-use Rattle.frame_terms.specs.declared.document.Made.{Made}
-use Rattle.frame_terms.specs.declared.document.Made.TheVariants.{Enters, Leaves}
-use Rattle.frame_terms.specs.declared.document.Taken.{Taken}
-use Rattle.frame_terms.specs.declared.fault.ReadRefusal.{ReadRefusal}
-use Rattle.frame_terms.specs.declared.keyword.Keyword.{Keyword}
-use Rattle.frame_terms.specs.Decisions.{made_by}
-use Rattle.frame_terms.specs.Documents.{Document, group, onto, read_items}
-use Rattle.frame_terms.specs.Keywords.{same}
-use Rattle.frame_terms.specs.Order.{inner, is_keyword, opener}
-use Rattle.frame_terms.specs.Standing.{enters}
-use Rattle.frame_terms.specs.Tables.{Tables}
-use Rattle.frame_laws.proofs.Reading.{read_on}
-use Rattle.frame_laws.proofs.Steps.{opening}
-use Rattle.document_laws.specs.Counts.{RowsStand}
-use Rattle.document_laws.proofs.Parts.{IsListed}
-use Rattle.document_laws.specs.Clear.{AreClear}
-use Rattle.document_laws.specs.Parts.{AreOthers, EndsWithin, HasLast, HaveInside, IsInside, Stands}
-use Rattle.document_laws.proofs.Between.{between_read, word_begins}
+use Rattle.std.proofs.Common.{◌≡◌, ℕ, true, List, [], ◌∷◌, ◌++◌, Option, Some, None, Result, Ok, sym, ap, subst, ◌∙◌}
+use Rattle.std.{proofs.Common.{append_assoc, inl, inr}, specs.List.AllByRecursion}
+use Rattle.item_terms.specs.{declared.fault.DocFault.DocFault, Items.Item}
+use Rattle.frame_terms.specs.declared.document.{Group.Group, Made.{Made, TheVariants.{Enters, Leaves}}, Taken.Taken}
+use Rattle.frame_terms.specs.{declared.{fault.ReadRefusal.ReadRefusal, keyword.Keyword.Keyword}, Decisions.made_by}
+use Rattle.frame_terms.specs.{Documents.{Document, group, onto, read_items}, Keywords.same, Order.{inner, is_keyword}}
+use Rattle.frame_terms.specs.{Order.opener, Standing.enters, Tables.Tables}
+use Rattle.frame_laws.proofs.{Reading.read_on, Steps.opening}
+use Rattle.document_laws.specs.{Counts.RowsStand, Clear.AreClear, Parts.{AreOthers, EndsWithin, HasLast, HaveInside}}
+use Rattle.document_laws.{specs.Parts.{IsInside, Stands}, proofs.{Parts.IsListed, Between.{between_read, word_begins}}}
 use Rattle.document_laws.proofs.Places.{IsNear, entrance_of, keyword-one, never_beyond_inside, never_past, opens_inside}
-use Rattle.document_laws.proofs.Rows.{is_new, none_lacks, not_opener}
-use Rattle.document_laws.proofs.Steps.{ends_it, goes_in}
+use Rattle.document_laws.proofs.{Rows.{is_new, none_lacks, not_opener}, Steps.{ends_it, goes_in}}
 
 module _ {A : Type 0} where
   -- what holds of two lists holds of each

@@ -1,14 +1,11 @@
 -- The sections of a table that follow one another.
 use Rattle.std.proofs.Common.{◌≡◌, ℕ, ◌+◌, Bool, true, false, List, [], ◌∷◌, ◌++◌, Some, None, refl, suc, ap, subst}
-use Rattle.std.proofs.Common.{◌∙◌, arith}
-use Rattle.std.specs.Prelude.{cond, drop, map, not, if◌then◌else◌}
-use Rattle.std.specs.List.{AllByRecursion, IsDistinct}
-use Rattle.frame_terms.specs.declared.keyword.Keyword.{Keyword}
-use Rattle.frame_terms.specs.declared.section.Again.{Again}
-use Rattle.frame_terms.specs.declared.section.Again.TheVariants as again
-use Rattle.frame_terms.specs.Keywords.{same}
-use Rattle.frame_terms.specs.Order.{after, following_sections, must_open, opened_by, opener, passed_over, place_of, repeats}
+use Rattle.std.{proofs.Common.{◌∙◌, arith}, specs.{Prelude.{cond, drop, map, not, if◌then◌else◌}, List.AllByRecursion}}
+use Rattle.std.specs.List.{IsDistinct}
+use Rattle.frame_terms.specs.{declared.{keyword.Keyword.Keyword, section.Again.Again}, Keywords.same, Order.after}
+use Rattle.frame_terms.specs.Order.{following_sections, must_open, opened_by, opener, passed_over, place_of, repeats}
 use Rattle.frame_terms.specs.Tables.{Tables}
+use Rattle.frame_terms.specs.declared.section.Again.TheVariants as again
 use Rattle.frame_laws.proofs.KnownWords.{same-refl}
 use Rattle.document_laws.specs.Order.{AreInOrder, MayStand}
 

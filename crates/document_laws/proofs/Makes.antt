@@ -1,33 +1,19 @@
 -- What an item makes is one of the ways in which it may stand.
 use Rattle.std.proofs.Common.{◌≡◌, ℕ, Bool, true, false, List, [], Option, Some, None, Result, Ok, Err, refl, sym, ap}
-use Rattle.std.proofs.Common.{◌∙◌, inl, inr, subst}
-use Rattle.std.specs.Prelude.{IfSome, not, ◌&&◌, if◌then◌else◌}
+use Rattle.std.{proofs.Common.{◌∙◌, inl, inr, subst}, specs.Prelude.{IfSome, not, ◌&&◌, if◌then◌else◌}}
 use Rattle.item_terms.specs.Items.{Item}
-use Rattle.frame_terms.specs.declared.document.Group.{Group}
-use Rattle.frame_terms.specs.declared.document.Made.{Made}
-use Rattle.frame_terms.specs.declared.document.Made.TheVariants.{Passes, Pushes, Opens}
-use Rattle.frame_terms.specs.declared.document.Open.{Open}
-use Rattle.frame_terms.specs.declared.document.Taken.{Taken}
-use Rattle.frame_terms.specs.declared.fault.FrameFault.{FrameFault}
-use Rattle.frame_terms.specs.declared.fault.FrameReason.TheVariants.{Missing, Twice}
-use Rattle.frame_terms.specs.declared.fault.ReadRefusal.{ReadRefusal}
-use Rattle.frame_terms.specs.declared.keyword.Keyword.{Keyword}
-use Rattle.frame_terms.specs.declared.row.Row.{Row}
-use Rattle.frame_terms.specs.declared.section.Again.{Again}
+use Rattle.frame_terms.specs.declared.document.{Group.Group, Made.{Made, TheVariants.{Passes, Pushes, Opens}}}
+use Rattle.frame_terms.specs.declared.{document.{Open.Open, Taken.Taken}, fault.FrameFault.FrameFault}
+use Rattle.frame_terms.specs.declared.fault.{FrameReason.TheVariants.{Missing, Twice}, ReadRefusal.ReadRefusal}
+use Rattle.frame_terms.specs.declared.{keyword.Keyword.Keyword, row.Row.Row, section.Again.Again}
+use Rattle.frame_terms.specs.Decisions.{beyond_inner, first_item, made_first, made_later, unless_fault, unless_refused}
+use Rattle.frame_terms.specs.{Keywords.{same, word_of}, Order.{begins_document, first_of, following_sections, inner}}
+use Rattle.frame_terms.specs.{Order.{is_keyword, is_strange, opened_by, opener, passed_over}, Refusals.refusal_at}
+use Rattle.frame_terms.specs.{Rows.is_many, Sections.{accept, lacking_keyword, lacking_but, row_of, stands, taken_as}}
+use Rattle.frame_terms.specs.{Sections.taken_of, Standing.{as_made, begins, begins_again, by_keyword, by_row}}
+use Rattle.frame_terms.specs.{Standing.{elsewhere, ends, enters, goes_on, in_section, unless}, Tables.Tables}
 use Rattle.frame_terms.specs.declared.section.Again.TheVariants as again
-use Rattle.frame_terms.specs.Decisions.{beyond_inner, first_item, made_first, made_later}
-use Rattle.frame_terms.specs.Decisions.{unless_fault, unless_refused}
-use Rattle.frame_terms.specs.Keywords.{same, word_of}
-use Rattle.frame_terms.specs.Order.{begins_document, first_of, following_sections, inner, is_keyword, is_strange, opened_by, opener}
-use Rattle.frame_terms.specs.Order.{passed_over}
-use Rattle.frame_terms.specs.Refusals.{refusal_at}
-use Rattle.frame_terms.specs.Rows.{is_many}
-use Rattle.frame_terms.specs.Sections.{accept, lacking_keyword, lacking_but, row_of, stands, taken_as, taken_of}
-use Rattle.frame_terms.specs.Standing.{as_made, begins, begins_again, by_keyword, by_row, elsewhere, ends, enters, goes_on}
-use Rattle.frame_terms.specs.Standing.{in_section, unless}
-use Rattle.frame_terms.specs.Tables.{Tables}
-use Rattle.frame_laws.proofs.KnownWords.{same-sym, same-through}
-use Rattle.frame_laws.proofs.Steps.{opening}
+use Rattle.frame_laws.proofs.{KnownWords.{same-sym, same-through}, Steps.opening}
 use Rattle.document_laws.proofs.Ways.{FirstMay, IsAccepted, IsAdded, IsEnding, LacksOpener, LaterMay}
 use Rattle.document_laws.proofs.Openers.{opened_same, row_of-one, row_of-same}
 

@@ -2,33 +2,19 @@
 use Rattle.std.proofs.Common.{◌≡◌, ℕ, Bool, true, false, List, [], Option, Some, None, Result, Ok, Err, refl, ap, ◌∙◌}
 use Rattle.std.specs.Prelude.{not, ◌&&◌, if◌then◌else◌}
 use Rattle.item_terms.specs.Items.{Item}
-use Rattle.frame_terms.specs.declared.document.Group.{Group}
-use Rattle.frame_terms.specs.declared.document.Made.{Made}
-use Rattle.frame_terms.specs.declared.document.Made.TheVariants.{Passes, Pushes, Opens, Enters, Leaves, Ends, Stops}
-use Rattle.frame_terms.specs.declared.document.Open.{Open}
-use Rattle.frame_terms.specs.declared.document.Taken.{Taken}
-use Rattle.frame_terms.specs.declared.fault.FrameFault.{FrameFault}
-use Rattle.frame_terms.specs.declared.fault.FrameReason.TheVariants.{Twice}
-use Rattle.frame_terms.specs.declared.fault.ReadRefusal.{ReadRefusal}
-use Rattle.frame_terms.specs.declared.keyword.Keyword.{Keyword}
-use Rattle.frame_terms.specs.declared.row.Row.{Row}
-use Rattle.frame_terms.specs.declared.section.Again.{Again}
-use Rattle.frame_terms.specs.declared.section.Again.TheVariants as again
-use Rattle.frame_terms.specs.Decisions.{beyond_inner, made_later, unless_fault}
-use Rattle.frame_terms.specs.Keywords.{same, word_of}
-use Rattle.frame_terms.specs.Order.{first_of, following_sections, inner, is_keyword, is_strange, opened_by, opener, passed_over}
-use Rattle.frame_terms.specs.Refusals.{refusal_at}
-use Rattle.frame_terms.specs.Rows.{is_many}
+use Rattle.frame_terms.specs.declared.document.{Group.Group, Made.{Made, TheVariants.{Passes, Pushes, Opens, Enters}}}
+use Rattle.frame_terms.specs.declared.document.{Made.TheVariants.{Leaves, Ends, Stops}, Open.Open, Taken.Taken}
+use Rattle.frame_terms.specs.declared.fault.{FrameFault.FrameFault, FrameReason.TheVariants.Twice}
+use Rattle.frame_terms.specs.declared.{fault.ReadRefusal.ReadRefusal, keyword.Keyword.Keyword, row.Row.Row}
+use Rattle.frame_terms.specs.{declared.section.Again.Again, Decisions.{beyond_inner, made_later, unless_fault}}
+use Rattle.frame_terms.specs.{Keywords.{same, word_of}, Order.{first_of, following_sections, inner, is_keyword}}
+use Rattle.frame_terms.specs.{Order.{is_strange, opened_by, opener, passed_over}, Refusals.refusal_at, Rows.is_many}
 use Rattle.frame_terms.specs.Sections.{accept, lacking_keyword, lacking_but, row_of, stands, taken_as, taken_of}
-use Rattle.frame_terms.specs.Standing.{as_made, begins, begins_again, by_keyword, by_row, elsewhere, ends, enters, goes_on}
-use Rattle.frame_terms.specs.Standing.{in_section, unless}
-use Rattle.frame_terms.specs.Tables.{Tables}
-use Rattle.frame_laws.proofs.KnownWords.{same-sym}
-use Rattle.frame_laws.proofs.Steps.{opening}
-use Rattle.document_laws.proofs.Makes.{Makes, makes_later}
-use Rattle.document_laws.proofs.Openers.{row_of-same}
-use Rattle.document_laws.proofs.Ways.{LaterMay}
-use Rattle.document_laws.proofs.Steps.{same-both}
+use Rattle.frame_terms.specs.Standing.{as_made, begins, begins_again, by_keyword, by_row, elsewhere, ends, enters}
+use Rattle.frame_terms.specs.{Standing.{goes_on, in_section, unless}, Tables.Tables}
+use Rattle.frame_terms.specs.declared.section.Again.TheVariants as again
+use Rattle.frame_laws.proofs.{KnownWords.same-sym, Steps.opening}
+use Rattle.document_laws.proofs.{Makes.{Makes, makes_later}, Openers.row_of-same, Ways.LaterMay, Steps.same-both}
 
 -- an item that is one more opener of a section
 pub record IsNextOpener {S K V X : Type 0} (tables : Tables S K V X) (section : S) (item : Item) : Type 0 where

@@ -1,11 +1,8 @@
 -- What stands in the middle of a section, between its first item and its last.
 use Rattle.std.proofs.Common.{◌≡◌, List, [], ◌∷◌, refl, ap, inl, inr}
 use Rattle.item_terms.specs.Items.{Item}
-use Rattle.frame_terms.specs.declared.document.Group.{Group}
-use Rattle.frame_terms.specs.declared.document.Taken.{Taken}
-use Rattle.frame_terms.specs.Tables.{Tables}
-use Rattle.document_laws.specs.Passing.{IsPassedIn}
-use Rattle.document_laws.specs.Parts.{AreBetween, AreOthers, HaveInside, IsOrdinary}
+use Rattle.frame_terms.specs.{declared.document.{Group.Group, Taken.Taken}, Tables.Tables}
+use Rattle.document_laws.specs.{Passing.IsPassedIn, Parts.{AreBetween, AreOthers, HaveInside, IsOrdinary}}
 
 module _ {S K V X : Type 0} (tables : Tables S K V X) where
   -- no section inside this one is still to come

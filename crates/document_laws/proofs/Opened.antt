@@ -1,18 +1,11 @@
 -- What the opener of a section opens behind another.
-use Rattle.std.proofs.Common.{◌≡◌, Bool, true, false, List, [], ◌∷◌, ◌++◌, Some, None, sym, ap, subst, ◌∙◌, append_assoc}
-use Rattle.std.specs.Prelude.{map, if◌then◌else◌}
-use Rattle.std.specs.List.{AllByRecursion, IsDistinct}
-use Rattle.frame_terms.specs.declared.keyword.Keyword.{Keyword}
-use Rattle.frame_terms.specs.Keywords.{same}
-use Rattle.frame_terms.specs.Order.{following_sections, opened_by, opener, passed_over, repeats}
-use Rattle.frame_terms.specs.Sections.{row_of}
-use Rattle.frame_terms.specs.Tables.{Tables}
+use Rattle.std.proofs.Common.{◌≡◌, Bool, true, false, List, [], ◌∷◌, ◌++◌, Some, None, sym, ap, subst, ◌∙◌}
+use Rattle.std.{proofs.Common.append_assoc, specs.{Prelude.{map, if◌then◌else◌}, List.{AllByRecursion, IsDistinct}}}
+use Rattle.frame_terms.specs.{declared.keyword.Keyword.Keyword, Keywords.same, Order.{following_sections, opened_by}}
+use Rattle.frame_terms.specs.{Order.{opener, passed_over, repeats}, Sections.row_of, Tables.Tables}
 use Rattle.frame_laws.proofs.KnownWords.{same-sym, same-through}
-use Rattle.document_laws.proofs.Lists.{AllRepeat, IsAfter}
-use Rattle.document_laws.proofs.Openers.{row_of-one}
-use Rattle.document_laws.proofs.Parts.{IsListed}
+use Rattle.document_laws.proofs.{Lists.{AllRepeat, IsAfter}, Openers.row_of-one, Parts.IsListed, Places.follows}
 use Rattle.document_laws.specs.Clear.{AreClear}
-use Rattle.document_laws.proofs.Places.{follows}
 
 module _ {S K V X : Type 0} (tables : Tables S K V X) (clear : AreClear tables) where
   -- of sections of which no two have one keyword, those behind some

@@ -1,31 +1,19 @@
 -- With '-' behind the bytes a document is refused as it is without it never.
-use Rattle.std.proofs.Common.{◌≡◌, ℕ, ◌+◌, ◌≤◌, ◌⊎◌, false, List, [], ◌∷◌, ◌++◌, length, drop, Option}
-use Rattle.std.proofs.Common.{None, Result, Ok, Err, refl, sym, ap, subst, ◌∙◌, inl, inr, arith}
-use Rattle.std.proofs.lemmas.Bool.{false≢true}
+use Rattle.std.proofs.Common.{◌≡◌, ℕ, ◌+◌, ◌≤◌, ◌⊎◌, false, List, [], ◌∷◌, ◌++◌, length, drop, Option, None, Result, Ok}
+use Rattle.std.proofs.{Common.{Err, refl, sym, ap, subst, ◌∙◌, inl, inr, arith}, lemmas.Bool.false≢true}
 use Rattle.std.proofs.lemmas.List.{append-nil, drop-append-le}
-use Rattle.item_terms.specs.declared.fault.DocFault.{DocFault}
-use Rattle.item_terms.specs.declared.fault.DocReason.TheVariants.{Unterminated}
-use Rattle.item_terms.specs.Faults.{at}
-use Rattle.item_terms.specs.Items.{Contents, Item, contents, Open as Begun, failed_contents, keyword_line, nothing, object_lines}
-use Rattle.dirdoc_grammar.specs.declared.cursor.Cursor.{Cursor}
-use Rattle.dirdoc_grammar.specs.Cursors.{IsOver, fed_by}
-use Rattle.dirdoc_grammar.specs.Feeding.{Settles, first_of}
-use Rattle.dirdoc_grammar.specs.Reading.{from_place}
-use Rattle.dirdoc_grammar.proofs.Endings.{cut_now}
-use Rattle.dirdoc_grammar.proofs.Endings.{more_of}
+use Rattle.item_terms.specs.{declared.fault.{DocFault.DocFault, DocReason.TheVariants.Unterminated}, Faults.at}
+use Rattle.item_terms.specs.Items.{Contents, Item, contents, Open as Begun, failed_contents, keyword_line, nothing}
+use Rattle.item_terms.specs.Items.{object_lines}
+use Rattle.dirdoc_grammar.specs.{declared.cursor.Cursor.Cursor, Cursors.{IsOver, fed_by}, Feeding.{Settles, first_of}}
+use Rattle.dirdoc_grammar.{specs.Reading.from_place, proofs.Endings.{cut_now, more_of}}
 use Rattle.dirdoc_grammar.proofs.FirstLine as first
-use Rattle.frame_terms.specs.declared.document.Open.{Open}
-use Rattle.frame_terms.specs.declared.document.Taken.{Taken}
-use Rattle.frame_terms.specs.declared.fault.FrameReason.{FrameReason}
-use Rattle.frame_terms.specs.declared.fault.FrameReason.TheVariants.{Doc}
-use Rattle.frame_terms.specs.declared.fault.ReadRefusal.{ReadRefusal}
-use Rattle.frame_terms.specs.declared.fault.ReadRefusal.TheVariants.{Frame, Memory}
-use Rattle.frame_terms.specs.Documents.{finish, read_items}
-use Rattle.frame_terms.specs.Refusals.{of_doc}
-use Rattle.frame_terms.specs.Tables.{Tables}
+use Rattle.frame_terms.specs.declared.{document.{Open.Open, Taken.Taken}, fault.FrameReason.FrameReason}
+use Rattle.frame_terms.specs.declared.fault.{FrameReason.TheVariants.Doc, ReadRefusal.{ReadRefusal, TheVariants.Frame}}
+use Rattle.frame_terms.specs.{declared.fault.ReadRefusal.TheVariants.Memory, Documents.{finish, read_items}}
+use Rattle.frame_terms.specs.{Refusals.of_doc, Tables.Tables}
 use Rattle.frame_reader.specs.Arriving.{Follows, whole_of}
-use Rattle.document_laws.specs.Known.{AllIsOpen, HasNoDoc}
-use Rattle.document_laws.proofs.Refusing.{IsClear, of_finish, of_nothing, of_one}
+use Rattle.document_laws.{specs.Known.{AllIsOpen, HasNoDoc}, proofs.Refusing.{IsClear, of_finish, of_nothing, of_one}}
 use Rattle.document_laws.proofs.Settling.{Known, Waiting, known_or_waits}
 
 -- what bytes that end there hold: at most an item, and the fault that they end too early at most

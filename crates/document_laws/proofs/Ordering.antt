@@ -1,36 +1,21 @@
 -- The sections of a document stand in the order of its table.
 use Rattle.std.proofs.Common.{◌≡◌, ℕ, ◌≤◌, Bool, true, false, List, [], ◌∷◌, ◌++◌, Option, Some, None, refl, sym, ap}
-use Rattle.std.proofs.Common.{arith, subst, inl, inr}
-use Rattle.std.specs.Prelude.{◌⊎◌, ◌||◌, is_some}
-use Rattle.std.proofs.lemmas.Bool.{false≢true}
-use Rattle.std.proofs.lemmas.Option.{none-some}
-use Rattle.item_terms.specs.declared.fault.DocFault.{DocFault}
-use Rattle.item_terms.specs.Items.{Item}
-use Rattle.frame_terms.specs.declared.document.Group.{Group}
-use Rattle.frame_terms.specs.declared.document.Open.{Open}
-use Rattle.frame_terms.specs.declared.document.Taken.{Taken}
-use Rattle.frame_terms.specs.declared.keyword.Keyword.{Keyword}
-use Rattle.frame_terms.specs.declared.section.Again.{Again}
-use Rattle.frame_terms.specs.Documents.{Document, group}
-use Rattle.frame_terms.specs.Order.{following_sections, is_keyword, must_open, opener}
-use Rattle.frame_terms.specs.Sections.{lacking_keyword}
-use Rattle.frame_terms.specs.Tables.{Tables}
+use Rattle.std.{proofs.{Common.{arith, subst, inl, inr}, lemmas.{Bool.false≢true, Option.none-some}}, specs.Prelude.◌⊎◌}
+use Rattle.std.specs.Prelude.{◌||◌, is_some}
+use Rattle.item_terms.specs.{declared.fault.DocFault.DocFault, Items.Item}
+use Rattle.frame_terms.specs.declared.{document.{Group.Group, Open.Open, Taken.Taken}, keyword.Keyword.Keyword}
+use Rattle.frame_terms.specs.{declared.section.Again.Again, Documents.{Document, group}, Order.following_sections}
+use Rattle.frame_terms.specs.{Order.{is_keyword, must_open, opener}, Sections.lacking_keyword, Tables.Tables}
 use Rattle.frame_laws.proofs.Steps.{opening}
-use Rattle.document_laws.specs.Items.{AreItemsIn}
-use Rattle.document_laws.specs.Counts.{times}
-use Rattle.document_laws.specs.Order.{AreInOrder, SectionsStandInOrder}
-use Rattle.document_laws.specs.Sound.{AreSound, begins_next, ends_document}
-use Rattle.document_laws.proofs.Taking.{AroundIs, around_more, first_here, items_of_more, one_more_item}
-use Rattle.document_laws.proofs.Parts.{one_further}
-use Rattle.document_laws.proofs.Lists.{in_order_none, opened_after}
-use Rattle.document_laws.proofs.Makes.{neither}
-use Rattle.document_laws.proofs.Parts.{StandsFrom, first_listed, stands_again, stands_before}
-use Rattle.document_laws.proofs.Parts.{stands_inside, stands_last, stands_whole}
-use Rattle.document_laws.proofs.Rules.{Rules, holds}
-use Rattle.document_laws.proofs.Ways.{IsAgain, IsEnding, IsEntering, IsLater, IsStopping}
-use Rattle.document_laws.proofs.Placing.{IsPlaced, adds_placed, closes_alone, enters_alone}
-use Rattle.document_laws.proofs.Placing.{enters_placed, leaves_placed, opens_alone, opens_placed, placed_alone}
-use Rattle.document_laws.proofs.Placing.{stands_once, stops_alone, top}
+use Rattle.document_laws.specs.{Items.AreItemsIn, Counts.times, Order.{AreInOrder, SectionsStandInOrder}}
+use Rattle.document_laws.{specs.Sound.{AreSound, begins_next, ends_document}, proofs.Taking.{AroundIs, around_more}}
+use Rattle.document_laws.proofs.{Taking.{first_here, items_of_more, one_more_item}, Parts.{one_further, StandsFrom}}
+use Rattle.document_laws.proofs.Parts.{first_listed, stands_again, stands_before, stands_inside, stands_last}
+use Rattle.document_laws.proofs.{Parts.stands_whole, Lists.{in_order_none, opened_after}, Makes.neither, Rules.Rules}
+use Rattle.document_laws.proofs.{Rules.holds, Ways.{IsAgain, IsEnding, IsEntering, IsLater, IsStopping}}
+use Rattle.document_laws.proofs.Placing.{IsPlaced, adds_placed, closes_alone, enters_alone, enters_placed}
+use Rattle.document_laws.proofs.Placing.{leaves_placed, opens_alone, opens_placed, placed_alone, stands_once}
+use Rattle.document_laws.proofs.Placing.{stops_alone, top}
 
 module _ {S K V X : Type 0} (tables : Tables S K V X) where
   -- what is open stands in a run of items

@@ -1,22 +1,14 @@
 -- A document from a section that is open on, and how one more section changes it.
-use Rattle.std.proofs.Common.{◌≡◌, ℕ, suc, List, [], ◌∷◌, ◌++◌, Some, refl, sym, ap, subst}
-use Rattle.std.proofs.Common.{◌∙◌, append-nil, append_assoc}
+use Rattle.std.proofs.Common.{◌≡◌, ℕ, suc, List, [], ◌∷◌, ◌++◌, Some, refl, sym, ap, subst, ◌∙◌, append-nil}
+use Rattle.std.proofs.{Common.append_assoc, lemmas.List.Elements.{All-cons, All-head, All-nil, All-tail}}
 use Rattle.std.specs.Prelude.{All, map, replicate}
-use Rattle.std.proofs.lemmas.List.Elements.{All-cons, All-head, All-nil, All-tail}
 use Rattle.item_terms.specs.Items.{Item}
-use Rattle.frame_terms.specs.declared.document.Group.{Group}
-use Rattle.frame_terms.specs.declared.document.Taken.{Taken}
-use Rattle.frame_terms.specs.declared.section.Again.{Again}
+use Rattle.frame_terms.specs.{declared.{document.{Group.Group, Taken.Taken}, section.Again.Again}, Documents.group}
+use Rattle.frame_terms.specs.{Order.following_sections, Tables.Tables}
 use Rattle.frame_terms.specs.declared.section.Again.TheVariants as again
-use Rattle.frame_terms.specs.Documents.{group}
-use Rattle.frame_terms.specs.Order.{following_sections}
-use Rattle.frame_terms.specs.Tables.{Tables}
-use Rattle.document_laws.specs.Order.{AreInOrder, BeginsWithOpener, HasInside, HasItems, IsInOrder, MayStand}
-use Rattle.document_laws.specs.Order.{Part, items_of, sections_of}
-use Rattle.document_laws.specs.Items.{AreItemsIn}
-use Rattle.document_laws.specs.Sound.{AreSound}
-use Rattle.document_laws.proofs.Taking.{items_of_more}
-use Rattle.document_laws.proofs.Lists.{IsAfter, following_is, in_order_skipped}
+use Rattle.document_laws.specs.Order.{AreInOrder, BeginsWithOpener, HasInside, HasItems, IsInOrder, MayStand, Part}
+use Rattle.document_laws.specs.{Order.{items_of, sections_of}, Items.AreItemsIn, Sound.AreSound}
+use Rattle.document_laws.proofs.{Taking.items_of_more, Lists.{IsAfter, following_is, in_order_skipped}}
 
 -- so many more sections of a name may stand
 abbrev MayMore : Again → ℕ → Type 0

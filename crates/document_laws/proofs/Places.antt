@@ -1,30 +1,16 @@
 -- Where a section may be open, and what is then known of a keyword.
-use Rattle.std.proofs.Common.{◌≡◌, ℕ, ◌+◌, ◌-◌, ◌≤◌, Bool, true, false, List, [], ◌∷◌, ◌++◌, Option, Some, None, refl, sym, ap}
-use Rattle.std.proofs.Common.{subst, ◌∙◌, arith}
-use Rattle.std.specs.Prelude.{IfSome, nat_lt, ◌||◌, if◌then◌else◌}
-use Rattle.std.specs.List.{list_any}
-use Rattle.std.proofs.lemmas.Bool.{false≢true, le-ltb}
-use Rattle.std.proofs.lemmas.Option.{none-some}
+use Rattle.std.proofs.Common.{◌≡◌, ℕ, ◌+◌, ◌-◌, ◌≤◌, Bool, true, false, List, [], ◌∷◌, ◌++◌, Option, Some, None, refl}
+use Rattle.std.proofs.{Common.{sym, ap, subst, ◌∙◌, arith}, lemmas.{Bool.{false≢true, le-ltb}, Option.none-some}}
+use Rattle.std.specs.{Prelude.{IfSome, nat_lt, ◌||◌, if◌then◌else◌}, List.list_any}
 use Rattle.item_terms.specs.Items.{Item}
-use Rattle.frame_terms.specs.declared.document.Group.{Group}
-use Rattle.frame_terms.specs.declared.document.Taken.{Taken}
-use Rattle.frame_terms.specs.declared.fault.FrameReason.TheVariants.{TooMany}
-use Rattle.frame_terms.specs.declared.keyword.Keyword.{Keyword}
-use Rattle.frame_terms.specs.declared.row.Limit.{Limit}
-use Rattle.frame_terms.specs.declared.row.Row.{Row}
-use Rattle.frame_terms.specs.Decisions.{beyond, beyond_inner, beyond_inside}
-use Rattle.frame_terms.specs.Keywords.{same}
-use Rattle.frame_terms.specs.Order.{following_sections, inner, is_keyword, knows, knows_in, knows_inside, knows_with, opened_by, opener}
-use Rattle.frame_terms.specs.Order.{section_if}
-use Rattle.frame_terms.specs.Rows.{limit_number}
-use Rattle.frame_terms.specs.Sections.{row_of, stands}
-use Rattle.frame_terms.specs.Tables.{Tables}
+use Rattle.frame_terms.specs.declared.{document.{Group.Group, Taken.Taken}, fault.FrameReason.TheVariants.TooMany}
+use Rattle.frame_terms.specs.{declared.{keyword.Keyword.Keyword, row.{Limit.Limit, Row.Row}}, Decisions.beyond}
+use Rattle.frame_terms.specs.{Decisions.{beyond_inner, beyond_inside}, Keywords.same, Order.{following_sections, inner}}
+use Rattle.frame_terms.specs.Order.{is_keyword, knows, knows_in, knows_inside, knows_with, opened_by, opener}
+use Rattle.frame_terms.specs.{Order.section_if, Rows.limit_number, Sections.{row_of, stands}, Tables.Tables}
 use Rattle.frame_laws.proofs.KnownWords.{same-sym, same-through}
-use Rattle.document_laws.proofs.Openers.{row_of-one}
-use Rattle.document_laws.proofs.Lists.{following_is}
-use Rattle.document_laws.proofs.Parts.{IsListed}
-use Rattle.document_laws.specs.Clear.{AreClear, IsEnd, IsEntrance}
-use Rattle.document_laws.specs.Parts.{EndsWithin}
+use Rattle.document_laws.{proofs.{Openers.row_of-one, Lists.following_is, Parts.IsListed}, specs.Clear.AreClear}
+use Rattle.document_laws.specs.{Clear.{IsEnd, IsEntrance}, Parts.EndsWithin}
 
 -- ---- tests of a list
 

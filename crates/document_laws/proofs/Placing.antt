@@ -1,29 +1,15 @@
 -- Where the section that is open stands among those of its document.
 use Rattle.std.proofs.Common.{◌≡◌, ℕ, ◌≤◌, Bool, true, false, List, [], ◌∷◌, ◌++◌, Option, Some, None, refl, sym, ap}
-use Rattle.std.proofs.Common.{◌∙◌, arith, subst, inl, inr}
+use Rattle.std.proofs.{Common.{◌∙◌, arith, subst, inl, inr}, lemmas.{Option.none-some, List.Folds.list_any-append}}
 use Rattle.std.specs.Prelude.{◌⊎◌, ◌||◌, if◌then◌else◌}
-use Rattle.std.proofs.lemmas.Option.{none-some}
-use Rattle.std.proofs.lemmas.List.Folds.{list_any-append}
 use Rattle.item_terms.specs.Items.{Item}
-use Rattle.frame_terms.specs.declared.document.Group.{Group}
-use Rattle.frame_terms.specs.declared.document.Taken.{Taken}
-use Rattle.frame_terms.specs.declared.keyword.Keyword.{Keyword}
-use Rattle.frame_terms.specs.declared.row.Count.{Count}
-use Rattle.frame_terms.specs.Documents.{group}
-use Rattle.frame_terms.specs.Keywords.{same}
-use Rattle.frame_terms.specs.Order.{following_sections, is_keyword, opened_by, opener, section_if}
-use Rattle.frame_terms.specs.Rows.{is_one}
-use Rattle.frame_terms.specs.Sections.{lacking_keyword, stands}
-use Rattle.frame_terms.specs.Tables.{Tables}
+use Rattle.frame_terms.specs.declared.{document.{Group.Group, Taken.Taken}, keyword.Keyword.Keyword, row.Count.Count}
+use Rattle.frame_terms.specs.{Documents.group, Keywords.same, Order.{following_sections, is_keyword, opened_by, opener}}
+use Rattle.frame_terms.specs.{Order.section_if, Rows.is_one, Sections.{lacking_keyword, stands}, Tables.Tables}
 use Rattle.frame_laws.proofs.KnownWords.{same-sym, same-through}
-use Rattle.document_laws.specs.Counts.{times}
-use Rattle.document_laws.specs.Order.{BeginsWithOpener}
-use Rattle.document_laws.specs.Sound.{AreSound, StandsOnce}
-use Rattle.document_laws.proofs.Counting.{there_all}
-use Rattle.document_laws.proofs.Lists.{opened_after}
-use Rattle.document_laws.proofs.Parts.{IsListed, next_listed}
-use Rattle.document_laws.proofs.Times.{none_stands}
-use Rattle.document_laws.proofs.Ways.{IsAdded, IsAgain, IsEntering, IsLater, IsStopping}
+use Rattle.document_laws.specs.{Counts.times, Order.BeginsWithOpener, Sound.{AreSound, StandsOnce}}
+use Rattle.document_laws.proofs.{Counting.there_all, Lists.opened_after, Parts.{IsListed, next_listed}}
+use Rattle.document_laws.proofs.{Times.none_stands, Ways.{IsAdded, IsAgain, IsEntering, IsLater, IsStopping}}
 
 -- ---- a section inside another
 

@@ -1,39 +1,22 @@
 -- Items that are a document's parts are read as that document.
 use Rattle.std.proofs.Common.{◌≡◌, ℕ, true, List, [], ◌∷◌, ◌++◌, Option, Some, None, Result, Ok, refl, sym, ap, subst}
-use Rattle.std.proofs.Common.{◌∙◌, append_assoc, append-nil, inl, inr}
-use Rattle.std.specs.Prelude.{◌⊎◌, ◌||◌, is_some}
-use Rattle.item_terms.specs.declared.fault.DocFault.{DocFault}
-use Rattle.item_terms.specs.Items.{Item}
-use Rattle.frame_terms.specs.declared.document.Group.{Group}
-use Rattle.frame_terms.specs.declared.document.Made.TheVariants.{Ends, Opens, Pushes, Stops}
-use Rattle.frame_terms.specs.declared.document.Taken.{Taken}
-use Rattle.frame_terms.specs.declared.fault.ReadRefusal.{ReadRefusal}
-use Rattle.frame_terms.specs.declared.keyword.Keyword.{Keyword}
+use Rattle.std.{proofs.Common.{◌∙◌, append_assoc, append-nil, inl, inr}, specs.Prelude.{◌⊎◌, ◌||◌, is_some}}
+use Rattle.item_terms.specs.{declared.fault.DocFault.DocFault, Items.Item}
+use Rattle.frame_terms.specs.declared.document.{Group.Group, Made.TheVariants.{Ends, Opens, Pushes, Stops}, Taken.Taken}
+use Rattle.frame_terms.specs.{declared.{fault.ReadRefusal.ReadRefusal, keyword.Keyword.Keyword}, Decisions.made_by}
+use Rattle.frame_terms.specs.{Documents.{Document, at_end, closed_at, group, onto, read_items, start}, Keywords.same}
+use Rattle.frame_terms.specs.{Order.{first_of, following_sections, is_keyword, must_open, opener}, Tables.Tables}
 use Rattle.frame_terms.specs.declared.section.Again.TheVariants as again
-use Rattle.frame_terms.specs.Decisions.{made_by}
-use Rattle.frame_terms.specs.Documents.{Document, at_end, closed_at, group, onto, read_items, start}
-use Rattle.frame_terms.specs.Keywords.{same}
-use Rattle.frame_terms.specs.Order.{first_of, following_sections, is_keyword, must_open, opener}
-use Rattle.frame_terms.specs.Tables.{Tables}
-use Rattle.frame_laws.proofs.Reading.{read_on}
-use Rattle.frame_laws.proofs.Steps.{opening}
-use Rattle.document_laws.specs.Counts.{RowsStand}
-use Rattle.document_laws.specs.Order.{Part, items_of, sections_of}
-use Rattle.document_laws.specs.Passing.{EndsWith, EndsWithInput}
-use Rattle.document_laws.specs.Sound.{begins_next, ends_document}
-use Rattle.document_laws.proofs.Lists.{IsAfter}
-use Rattle.document_laws.proofs.Parts.{IsListed, names}
-use Rattle.document_laws.specs.Clear.{AreClear}
-use Rattle.document_laws.specs.Documents.{AreParts, DocumentsAreRead, EndsAt, EndsBeforeNext, EndsSo}
-use Rattle.document_laws.specs.Parts.{HasLast, IsPart, Stands}
-use Rattle.document_laws.proofs.Following.{ComeBehind, GoesOn, first_begins, first_is_listed, last_must}
-use Rattle.document_laws.proofs.Following.{next_goes, none_goes}
-use Rattle.document_laws.proofs.Opened.{is_opened}
-use Rattle.document_laws.proofs.Inside.{all_onto, others_read}
-use Rattle.document_laws.proofs.Between.{word_begins}
-use Rattle.document_laws.proofs.Places.{end_of, last_begins, never_beyond}
-use Rattle.document_laws.proofs.Rows.{is_new, none_lacks, whole}
-use Rattle.document_laws.proofs.Steps.{begins_later, begins_more, ends_it, starts, stops, word_opens}
+use Rattle.frame_laws.proofs.{Reading.read_on, Steps.opening}
+use Rattle.document_laws.specs.{Counts.RowsStand, Order.{Part, items_of, sections_of}, Passing.EndsWith}
+use Rattle.document_laws.specs.{Passing.EndsWithInput, Sound.{begins_next, ends_document}, Clear.AreClear}
+use Rattle.document_laws.specs.{Documents.{AreParts, DocumentsAreRead, EndsAt, EndsBeforeNext, EndsSo}, Parts.HasLast}
+use Rattle.document_laws.{specs.Parts.{IsPart, Stands}, proofs.{Lists.IsAfter, Parts.{IsListed, names}}}
+use Rattle.document_laws.proofs.Following.{ComeBehind, GoesOn, first_begins, first_is_listed, last_must, next_goes}
+use Rattle.document_laws.proofs.{Following.none_goes, Opened.is_opened, Inside.{all_onto, others_read}}
+use Rattle.document_laws.proofs.{Between.word_begins, Places.{end_of, last_begins, never_beyond}, Rows.is_new}
+use Rattle.document_laws.proofs.{Rows.{none_lacks, whole}, Steps.{begins_later, begins_more, ends_it, starts, stops}}
+use Rattle.document_laws.proofs.Steps.{word_opens}
 
 -- ---- the last of some items
 

@@ -1,35 +1,22 @@
 -- What a document is whose bytes have no fault is refused as no line or object is, where its tables refuse no item so.
-use Rattle.std.proofs.Common.{◌≡◌, ℕ, ◌+◌, ◌-◌, Bool, true, false, List, [], ◌∷◌, ◌++◌, Option, Some, None, Result}
-use Rattle.std.proofs.Common.{Ok, Err, refl}
-use Rattle.std.specs.Prelude.{not, ◌&&◌, nat_lt, IfSome, if◌then◌else◌}
+use Rattle.std.proofs.Common.{◌≡◌, ℕ, ◌+◌, ◌-◌, Bool, true, false, List, [], ◌∷◌, ◌++◌, Option, Some, None, Result, Ok}
+use Rattle.std.{proofs.Common.{Err, refl}, specs.Prelude.{not, ◌&&◌, nat_lt, IfSome, if◌then◌else◌}}
 use Rattle.item_terms.specs.Items.{Item}
-use Rattle.frame_terms.specs.declared.document.Group.{Group}
-use Rattle.frame_terms.specs.declared.document.Made.{Made}
-use Rattle.frame_terms.specs.declared.document.Made.TheVariants.{Passes, Pushes, Opens, Enters, Leaves, Ends, Stops}
-use Rattle.frame_terms.specs.declared.document.Open.{Open}
-use Rattle.frame_terms.specs.declared.document.Taken.{Taken}
-use Rattle.frame_terms.specs.declared.fault.FrameFault.{FrameFault}
-use Rattle.frame_terms.specs.declared.fault.FrameReason.TheVariants.{Missing, TooMany}
-use Rattle.frame_terms.specs.declared.fault.ReadRefusal.{ReadRefusal}
-use Rattle.frame_terms.specs.declared.fault.ReadRefusal.TheVariants.{Frame, Memory}
-use Rattle.frame_terms.specs.declared.keyword.Keyword.{Keyword}
-use Rattle.frame_terms.specs.declared.row.Limit.{Limit}
-use Rattle.frame_terms.specs.declared.row.Row.{Row}
-use Rattle.frame_terms.specs.declared.section.Again.{Again}
-use Rattle.frame_terms.specs.declared.section.Again.TheVariants as again
+use Rattle.frame_terms.specs.declared.document.{Group.Group, Made.{Made, TheVariants.{Passes, Pushes, Opens, Enters}}}
+use Rattle.frame_terms.specs.declared.document.{Made.TheVariants.{Leaves, Ends, Stops}, Open.Open, Taken.Taken}
+use Rattle.frame_terms.specs.declared.fault.{FrameFault.FrameFault, FrameReason.TheVariants.{Missing, TooMany}}
+use Rattle.frame_terms.specs.declared.fault.ReadRefusal.{ReadRefusal, TheVariants.{Frame, Memory}}
+use Rattle.frame_terms.specs.declared.{keyword.Keyword.Keyword, row.{Limit.Limit, Row.Row}, section.Again.Again}
 use Rattle.frame_terms.specs.Decisions.{beyond, beyond_inner, beyond_inside, first_item, first_place, made_after}
-use Rattle.frame_terms.specs.Decisions.{made_by, section_inside, unless_fault, unless_refused}
-use Rattle.frame_terms.specs.Documents.{Document, after_made, after_noted, closed_at, finish, go_on, group}
-use Rattle.frame_terms.specs.Documents.{missing_at_end, note_of_made, onto, read_items, with_inner, with_next}
-use Rattle.frame_terms.specs.Documents.{with_one, without_inner}
-use Rattle.frame_terms.specs.Keywords.{word_of}
-use Rattle.frame_terms.specs.Order.{begins_document, first_of, following_sections, inner, is_keyword, is_strange, opened_by}
-use Rattle.frame_terms.specs.Order.{opener, passed_over}
-use Rattle.frame_terms.specs.Rows.{is_many, limit_number}
-use Rattle.frame_terms.specs.Sections.{accept, lacking_keyword, lacking_but, row_of, stands, taken_as}
-use Rattle.frame_terms.specs.Standing.{as_made, begins, begins_again, by_keyword, by_row, elsewhere, ends, enters}
-use Rattle.frame_terms.specs.Standing.{goes_on, in_section, unless}
-use Rattle.frame_terms.specs.Tables.{Tables}
+use Rattle.frame_terms.specs.{Decisions.{made_by, section_inside, unless_fault, unless_refused}, Documents.Document}
+use Rattle.frame_terms.specs.Documents.{after_made, after_noted, closed_at, finish, go_on, group, missing_at_end}
+use Rattle.frame_terms.specs.Documents.{note_of_made, onto, read_items, with_inner, with_next, with_one, without_inner}
+use Rattle.frame_terms.specs.{Keywords.word_of, Order.{begins_document, first_of, following_sections, inner}}
+use Rattle.frame_terms.specs.{Order.{is_keyword, is_strange, opened_by, opener, passed_over}, Rows.is_many}
+use Rattle.frame_terms.specs.{Rows.limit_number, Sections.{accept, lacking_keyword, lacking_but, row_of, stands}}
+use Rattle.frame_terms.specs.{Sections.taken_as, Standing.{as_made, begins, begins_again, by_keyword, by_row}}
+use Rattle.frame_terms.specs.{Standing.{elsewhere, ends, enters, goes_on, in_section, unless}, Tables.Tables}
+use Rattle.frame_terms.specs.declared.section.Again.TheVariants as again
 use Rattle.document_laws.specs.Known.{HasNoDoc, IsNoDoc, is_doc}
 
 -- an answer that is no fault of a line or an object

@@ -1,42 +1,20 @@
 -- Each document that is read is parts, one behind the other.
-use Rattle.std.proofs.Common.{◌≡◌, ℕ, ◌≤◌, Bool, true, false, List, [], ◌∷◌, ◌++◌, Option, Some, None, Ok, refl, sym, ap}
-use Rattle.std.proofs.Common.{subst, ◌∙◌, arith, inl, inr}
-use Rattle.std.specs.Prelude.{All, is_some, ◌||◌}
-use Rattle.std.proofs.lemmas.Bool.{false≢true}
-use Rattle.std.proofs.lemmas.List.Elements.{All-head, All-tail}
-use Rattle.std.proofs.lemmas.Option.{none-some}
-use Rattle.item_terms.specs.declared.fault.DocFault.{DocFault}
-use Rattle.item_terms.specs.Items.{Item}
-use Rattle.frame_terms.specs.declared.document.Group.{Group}
-use Rattle.frame_terms.specs.declared.document.Taken.{Taken}
-use Rattle.frame_terms.specs.declared.keyword.Keyword.{Keyword}
-use Rattle.frame_terms.specs.declared.section.Again.{Again}
-use Rattle.frame_terms.specs.Decisions.{beyond_inner}
-use Rattle.frame_terms.specs.Documents.{Document, group}
-use Rattle.frame_terms.specs.Keywords.{same, word_of}
-use Rattle.frame_terms.specs.Order.{following_sections, inner, is_keyword, must_open, opener}
-use Rattle.frame_terms.specs.Sections.{lacking_keyword}
-use Rattle.frame_terms.specs.Tables.{Tables}
-use Rattle.document_laws.specs.Counts.{RowsStand, times}
-use Rattle.document_laws.specs.Order.{AreInOrder}
-use Rattle.document_laws.specs.Passing.{IsPassedIn}
-use Rattle.document_laws.specs.Sound.{begins_next, ends_document}
-use Rattle.document_laws.proofs.Lists.{in_order_none}
-use Rattle.document_laws.proofs.Parts.{IsListed}
-use Rattle.document_laws.proofs.Placing.{IsNotEnded, not_ended_more, stands_once}
-use Rattle.document_laws.proofs.Rules.{alone}
-use Rattle.document_laws.proofs.Times.{none_stands}
-use Rattle.document_laws.proofs.Ways.{IsAdded, IsEnding, IsStopping}
-use Rattle.document_laws.specs.Clear.{AreClear}
-use Rattle.document_laws.specs.Documents.{EndsAt}
-use Rattle.document_laws.specs.Parts.{AreOthers, IsOrdinary}
-use Rattle.document_laws.proofs.Entering.{HasEntered, entered_more}
-use Rattle.document_laws.proofs.Entering.{within_of}
-use Rattle.document_laws.proofs.Growing.{adds_inner, adds_tail, done_tail, ends_tail, none_behind, passes_inner, passes_tail}
-use Rattle.document_laws.proofs.Making.{IsNextOpener}
-use Rattle.document_laws.proofs.Middles.{Extends, NoneInside, none_extends, others_extends}
-use Rattle.document_laws.proofs.Places.{end_of}
-use Rattle.document_laws.proofs.Tails.{HasAll, HasInnerTail, HasTail}
+use Rattle.std.proofs.Common.{◌≡◌, ℕ, ◌≤◌, Bool, true, false, List, [], ◌∷◌, ◌++◌, Option, Some, None, Ok, refl, sym}
+use Rattle.std.proofs.{Common.{ap, subst, ◌∙◌, arith, inl, inr}, lemmas.{Bool.false≢true, List.Elements.All-head}}
+use Rattle.std.{proofs.lemmas.{List.Elements.All-tail, Option.none-some}, specs.Prelude.{All, is_some, ◌||◌}}
+use Rattle.item_terms.specs.{declared.fault.DocFault.DocFault, Items.Item}
+use Rattle.frame_terms.specs.declared.{document.{Group.Group, Taken.Taken}, keyword.Keyword.Keyword}
+use Rattle.frame_terms.specs.{declared.section.Again.Again, Decisions.beyond_inner, Documents.{Document, group}}
+use Rattle.frame_terms.specs.{Keywords.{same, word_of}, Order.{following_sections, inner, is_keyword, must_open}}
+use Rattle.frame_terms.specs.{Order.opener, Sections.lacking_keyword, Tables.Tables}
+use Rattle.document_laws.specs.{Counts.{RowsStand, times}, Order.AreInOrder, Passing.IsPassedIn, Sound.begins_next}
+use Rattle.document_laws.specs.{Sound.ends_document, Clear.AreClear, Documents.EndsAt, Parts.{AreOthers, IsOrdinary}}
+use Rattle.document_laws.proofs.{Lists.in_order_none, Parts.IsListed, Placing.{IsNotEnded, not_ended_more, stands_once}}
+use Rattle.document_laws.proofs.{Rules.alone, Times.none_stands, Ways.{IsAdded, IsEnding, IsStopping}}
+use Rattle.document_laws.proofs.{Entering.{HasEntered, entered_more, within_of}, Growing.{adds_inner, adds_tail}}
+use Rattle.document_laws.proofs.Growing.{done_tail, ends_tail, none_behind, passes_inner, passes_tail}
+use Rattle.document_laws.proofs.{Making.IsNextOpener, Middles.{Extends, NoneInside, none_extends, others_extends}}
+use Rattle.document_laws.proofs.{Places.end_of, Tails.{HasAll, HasInnerTail, HasTail}}
 
 neither_way : (n : ℕ) → 1 ≤ n → n ≡ 0 → ⊥
 neither_way n some no_ = omega (arith, some, no_)

@@ -1,29 +1,17 @@
 -- What the rows of a section say of an item that stands among those of the section.
-use Rattle.std.proofs.Common.{◌≡◌, ℕ, ◌+◌, ◌≤◌, Bool, true, false, List, [], ◌∷◌, ◌++◌, Option, Some, None, Result, Ok, Err}
-use Rattle.std.proofs.Common.{refl, sym, ap, subst, ◌∙◌, arith}
-use Rattle.std.specs.Prelude.{not, ◌&&◌, if◌then◌else◌}
+use Rattle.std.proofs.Common.{◌≡◌, ℕ, ◌+◌, ◌≤◌, Bool, true, false, List, [], ◌∷◌, ◌++◌, Option, Some, None, Result, Ok}
+use Rattle.std.{proofs.Common.{Err, refl, sym, ap, subst, ◌∙◌, arith}, specs.Prelude.{not, ◌&&◌, if◌then◌else◌}}
 use Rattle.std.specs.List.{AllByRecursion, find}
 use Rattle.item_terms.specs.Items.{Item}
-use Rattle.frame_terms.specs.declared.document.Taken.{Taken}
-use Rattle.frame_terms.specs.declared.fault.FrameFault.{FrameFault}
-use Rattle.frame_terms.specs.declared.fault.FrameReason.TheVariants.{Twice}
-use Rattle.frame_terms.specs.declared.fault.ReadRefusal.{ReadRefusal}
-use Rattle.frame_terms.specs.declared.keyword.Keyword.{Keyword}
-use Rattle.frame_terms.specs.declared.row.Count.{Count}
-use Rattle.frame_terms.specs.declared.row.Row.{Row}
-use Rattle.frame_terms.specs.Keywords.{same}
-use Rattle.frame_terms.specs.Order.{opener}
-use Rattle.frame_terms.specs.Refusals.{refusal_at}
-use Rattle.frame_terms.specs.Rows.{is_many, is_one}
-use Rattle.frame_terms.specs.Sections.{accept, keyword_if, lacking_keyword, lacking_but, row_of, stands, taken_as}
-use Rattle.frame_terms.specs.Tables.{Tables}
+use Rattle.frame_terms.specs.declared.{document.Taken.Taken, fault.FrameFault.FrameFault}
+use Rattle.frame_terms.specs.declared.fault.{FrameReason.TheVariants.Twice, ReadRefusal.ReadRefusal}
+use Rattle.frame_terms.specs.{declared.{keyword.Keyword.Keyword, row.{Count.Count, Row.Row}}, Keywords.same}
+use Rattle.frame_terms.specs.{Order.opener, Refusals.refusal_at, Rows.{is_many, is_one}, Sections.{accept, keyword_if}}
+use Rattle.frame_terms.specs.{Sections.{lacking_keyword, lacking_but, row_of, stands, taken_as}, Tables.Tables}
 use Rattle.frame_laws.proofs.KnownWords.{same-refl, same-sym}
-use Rattle.document_laws.specs.Counts.{IsCount, RowsStand, times}
-use Rattle.document_laws.specs.Items.{IsItemOf}
-use Rattle.document_laws.specs.Sound.{StandsOnce}
-use Rattle.document_laws.proofs.Openers.{row_of-same}
-use Rattle.document_laws.proofs.Times.{few_of, none_stands, once, one_of, some_stands, times-append, times-first, times-more}
-use Rattle.document_laws.proofs.Times.{times-same}
+use Rattle.document_laws.specs.{Counts.{IsCount, RowsStand, times}, Items.IsItemOf, Sound.StandsOnce}
+use Rattle.document_laws.proofs.{Openers.row_of-same, Times.{few_of, none_stands, once, one_of, some_stands}}
+use Rattle.document_laws.proofs.Times.{times-append, times-first, times-more, times-same}
 
 too_many : (a b c n m : ℕ) → 1 ≤ a → m ≤ 1 → n ≡ m → n ≡ a + (b + c) → b ≡ 1 → ⊥
 too_many a b c n m some few alike sum counted = omega (arith, some, few, alike, sum, counted)

@@ -1,27 +1,16 @@
 -- What is shown of a document item by item holds of what `document_of` gives.
-use Rattle.std.proofs.Common.{◌≡◌, ℕ, List, [], ◌∷◌, ◌++◌, Option, Some, None, Result, Ok, Err, refl, sym, subst}
-use Rattle.std.proofs.Common.{inl}
-use Rattle.std.proofs.Common.{inr}
-use Rattle.std.specs.Prelude.{◌⊎◌}
-use Rattle.item_terms.specs.Items.{Contents, Item}
-use Rattle.item_terms.specs.declared.fault.DocFault.{DocFault}
-use Rattle.frame_terms.specs.declared.document.Group.{Group}
-use Rattle.frame_terms.specs.declared.document.Made.{Made}
-use Rattle.frame_terms.specs.declared.document.Made.TheVariants.{Passes, Pushes, Opens, Enters, Leaves, Ends, Stops}
-use Rattle.frame_terms.specs.declared.document.Open.{Open}
-use Rattle.frame_terms.specs.declared.document.Taken.{Taken}
-use Rattle.frame_terms.specs.declared.fault.FrameFault.{FrameFault}
-use Rattle.frame_terms.specs.declared.fault.ReadRefusal.{ReadRefusal}
-use Rattle.frame_terms.specs.declared.keyword.Keyword.{Keyword}
-use Rattle.frame_terms.specs.Decisions.{made_first, made_later}
-use Rattle.frame_terms.specs.Documents.{Document, after_made, after_noted, at_end, closed_at, document_of, go_on, group}
-use Rattle.frame_terms.specs.Documents.{missing_at_end, onto, read_items, start}
-use Rattle.frame_terms.specs.Keywords.{word_of}
-use Rattle.frame_terms.specs.Tables.{Tables}
+use Rattle.std.proofs.Common.{◌≡◌, ℕ, List, [], ◌∷◌, ◌++◌, Option, Some, None, Result, Ok, Err, refl, sym, subst, inl}
+use Rattle.std.{proofs.Common.inr, specs.Prelude.◌⊎◌}
+use Rattle.item_terms.specs.{Items.{Contents, Item}, declared.fault.DocFault.DocFault}
+use Rattle.frame_terms.specs.declared.document.{Group.Group, Made.{Made, TheVariants.{Passes, Pushes, Opens, Enters}}}
+use Rattle.frame_terms.specs.declared.document.{Made.TheVariants.{Leaves, Ends, Stops}, Open.Open, Taken.Taken}
+use Rattle.frame_terms.specs.declared.{fault.{FrameFault.FrameFault, ReadRefusal.ReadRefusal}, keyword.Keyword.Keyword}
+use Rattle.frame_terms.specs.{Decisions.{made_first, made_later}, Documents.{Document, after_made, after_noted, at_end}}
+use Rattle.frame_terms.specs.Documents.{closed_at, document_of, go_on, group, missing_at_end, onto, read_items, start}
+use Rattle.frame_terms.specs.{Keywords.word_of, Tables.Tables}
 use Rattle.frame_laws.proofs.Steps.{opening}
-use Rattle.document_laws.specs.Passing.{IsPassedIn}
-use Rattle.document_laws.proofs.Makes.{Makes, makes_first, makes_later}
-use Rattle.document_laws.proofs.Ways.{FirstMay, IsAdded, IsBeginning, IsEnding, IsEntering, IsOpening, IsStopping, LacksOpener}
+use Rattle.document_laws.{specs.Passing.IsPassedIn, proofs.{Makes.{Makes, makes_first, makes_later}, Ways.FirstMay}}
+use Rattle.document_laws.proofs.Ways.{IsAdded, IsBeginning, IsEnding, IsEntering, IsOpening, IsStopping, LacksOpener}
 use Rattle.document_laws.proofs.Ways.{LaterMay}
 
 module _ {S V : Type 0} where

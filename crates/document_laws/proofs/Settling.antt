@@ -1,26 +1,18 @@
 -- Of bytes that go on, either what comes first is known whatever follows, or they end where it is not.
 use Rattle.std.proofs.Common.{◌≡◌, ℕ, zero, suc, ◌+◌, ◌-◌, ◌<◌, ◌≤◌, ◌⊎◌, Bool, true, false, List, ◌++◌, length, drop}
 use Rattle.std.proofs.Common.{Option, Some, None, Result, Ok, Err, refl, sym, ap, ◌∙◌, inl, inr, arith}
-use Rattle.std.specs.Prelude.{min, nat_lt, ◌&&◌, if◌then◌else◌}
-use Rattle.std.proofs.lemmas.Bool.{cases_lt, false≢true}
-use Rattle.std.proofs.lemmas.List.{length-drop}
-use Rattle.item_terms.specs.declared.fault.DocFault.{DocFault}
-use Rattle.item_terms.specs.declared.fault.DocReason.{DocReason}
-use Rattle.item_terms.specs.declared.fault.DocReason.TheVariants as why
-use Rattle.item_terms.specs.Faults.{at, or_else, nul_fault, line_fault, object_line_fault, max_line, max_object}
-use Rattle.item_terms.specs.Faults.{too_long}
-use Rattle.item_terms.specs.Items as model
-use Rattle.item_terms.specs.Items.{Open, nothing, keyword_line, object_lines}
-use Rattle.item_terms.specs.Lines.{Line, size}
-use Rattle.item_terms.specs.Steps.{step}
+use Rattle.std.{proofs.lemmas.{Bool.{cases_lt, false≢true}, List.length-drop}, specs.Prelude.{min, nat_lt, ◌&&◌}}
+use Rattle.std.specs.Prelude.{if◌then◌else◌}
+use Rattle.item_terms.specs.{declared.fault.{DocFault.DocFault, DocReason.DocReason}, Faults.{at, or_else, nul_fault}}
+use Rattle.item_terms.specs.{Faults.{line_fault, object_line_fault, max_line, max_object, too_long}, Items.Open}
+use Rattle.item_terms.specs.{Items.{nothing, keyword_line, object_lines}, Lines.{Line, size}, Steps.step}
 use Rattle.item_terms.specs.Words.{begins_dash, nul_in}
-use Rattle.dirdoc_grammar.specs.Cursors.{IsOver}
-use Rattle.dirdoc_grammar.specs.Feeding.{first_of}
-use Rattle.dirdoc_grammar.specs.Reading.{InObject, fault_of, first_line, from_place}
-use Rattle.dirdoc_grammar.proofs.FirstLine.{at_step, ends_inside, fails, goes_on}
-use Rattle.dirdoc_grammar.proofs.Fronts.{cut_object, ended_at, grows_at, object_fault_stays}
-use Rattle.dirdoc_grammar.proofs.LineSteps.{begin_fails, cut_here, dash_more, fault_more, first_dash, inside_more}
-use Rattle.dirdoc_grammar.proofs.LineSteps.{line_fails, no_object}
+use Rattle.item_terms.specs.declared.fault.DocReason.TheVariants as why
+use Rattle.item_terms.specs.Items as model
+use Rattle.dirdoc_grammar.specs.{Cursors.IsOver, Feeding.first_of, Reading.{InObject, fault_of, first_line, from_place}}
+use Rattle.dirdoc_grammar.proofs.{FirstLine.{at_step, ends_inside, fails, goes_on}, Fronts.{cut_object, ended_at}}
+use Rattle.dirdoc_grammar.proofs.{Fronts.{grows_at, object_fault_stays}, LineSteps.{begin_fails, cut_here, dash_more}}
+use Rattle.dirdoc_grammar.proofs.LineSteps.{fault_more, first_dash, inside_more, line_fails, no_object}
 use Rattle.dirdoc_grammar.proofs.ObjectSteps.{object_fails}
 
 -- what comes first is this, whatever follows

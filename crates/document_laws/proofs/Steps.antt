@@ -1,39 +1,24 @@
 -- What an item makes that stands in a section or is passed over.
-use Rattle.std.proofs.Common.{◌≡◌, Bool, true, false, List, [], ◌∷◌, Option, Some, None, Result, Ok, Err, refl, sym}
-use Rattle.std.proofs.Common.{ap, ◌∙◌, inl, inr}
-use Rattle.std.specs.Prelude.{IfSome, not, ◌&&◌, ◌||◌, if◌then◌else◌}
+use Rattle.std.proofs.Common.{◌≡◌, Bool, true, false, List, [], ◌∷◌, Option, Some, None, Result, Ok, Err, refl, sym, ap}
+use Rattle.std.{proofs.Common.{◌∙◌, inl, inr}, specs.Prelude.{IfSome, not, ◌&&◌, ◌||◌, if◌then◌else◌}}
 use Rattle.item_terms.specs.Items.{Item}
-use Rattle.frame_terms.specs.declared.document.Group.{Group}
-use Rattle.frame_terms.specs.declared.document.Made.{Made}
-use Rattle.frame_terms.specs.declared.document.Made.TheVariants.{Passes, Pushes, Opens, Stops}
-use Rattle.frame_terms.specs.declared.document.Taken.{Taken}
-use Rattle.frame_terms.specs.declared.fault.FrameFault.{FrameFault}
-use Rattle.frame_terms.specs.declared.fault.FrameReason.TheVariants.{Missing, Order}
-use Rattle.frame_terms.specs.declared.fault.ReadRefusal.{ReadRefusal}
-use Rattle.frame_terms.specs.declared.keyword.Keyword.{Keyword}
-use Rattle.frame_terms.specs.declared.row.Row.{Row}
-use Rattle.frame_terms.specs.declared.section.Again.{Again}
-use Rattle.frame_terms.specs.declared.section.Again.TheVariants as again
+use Rattle.frame_terms.specs.declared.document.{Group.Group, Made.{Made, TheVariants.{Passes, Pushes, Opens, Stops}}}
+use Rattle.frame_terms.specs.declared.{document.Taken.Taken, fault.FrameFault.FrameFault}
+use Rattle.frame_terms.specs.declared.fault.{FrameReason.TheVariants.{Missing, Order}, ReadRefusal.ReadRefusal}
+use Rattle.frame_terms.specs.declared.{keyword.Keyword.Keyword, row.Row.Row, section.Again.Again}
 use Rattle.frame_terms.specs.Decisions.{beginning_reason, beyond_inner, first_item, made_by, made_later, unless_fault}
-use Rattle.frame_terms.specs.Decisions.{unless_refused}
-use Rattle.frame_terms.specs.Documents.{start}
-use Rattle.frame_terms.specs.Keywords.{same, word_of}
-use Rattle.frame_terms.specs.Order.{first_of, following_sections, inner, is_keyword, is_strange, knows, opened_by, opener, passed_over}
-use Rattle.frame_terms.specs.Refusals.{refusal_at}
-use Rattle.frame_terms.specs.Rows.{is_many}
-use Rattle.frame_terms.specs.Sections.{accept, lacking_keyword, lacking_but, row_of, stands}
-use Rattle.frame_terms.specs.Standing.{as_made, begins, begins_again, by_keyword, by_row, elsewhere, ends, enters, goes_on}
-use Rattle.frame_terms.specs.Standing.{in_section, unless}
+use Rattle.frame_terms.specs.{Decisions.unless_refused, Documents.start, Keywords.{same, word_of}, Order.first_of}
+use Rattle.frame_terms.specs.Order.{following_sections, inner, is_keyword, is_strange, knows, opened_by, opener}
+use Rattle.frame_terms.specs.{Order.passed_over, Refusals.refusal_at, Rows.is_many, Sections.{accept, lacking_keyword}}
+use Rattle.frame_terms.specs.{Sections.{lacking_but, row_of, stands}, Standing.{as_made, begins, begins_again}}
+use Rattle.frame_terms.specs.Standing.{by_keyword, by_row, elsewhere, ends, enters, goes_on, in_section, unless}
 use Rattle.frame_terms.specs.Tables.{Tables}
-use Rattle.frame_laws.proofs.KnownWords.{same-sym, same-through}
-use Rattle.frame_laws.proofs.Steps.{opening}
-use Rattle.document_laws.specs.Passing.{IsPassedIn}
-use Rattle.document_laws.proofs.Openers.{row_of-one, row_of-same}
-use Rattle.document_laws.specs.Clear.{AreClear}
-use Rattle.document_laws.specs.Parts.{Stands}
-use Rattle.document_laws.proofs.Places.{IsAt, IsNear, ignored_begins, never_beyond, never_beyond_again, or_front}
-use Rattle.document_laws.proofs.Places.{never_beyond_unknown, no_row_begins, regarded_of, unknown_opens, unknown_row}
-use Rattle.document_laws.proofs.Rows.{accepted, named}
+use Rattle.frame_terms.specs.declared.section.Again.TheVariants as again
+use Rattle.frame_laws.proofs.{KnownWords.{same-sym, same-through}, Steps.opening}
+use Rattle.document_laws.{specs.{Passing.IsPassedIn, Clear.AreClear, Parts.Stands}, proofs.Openers.row_of-one}
+use Rattle.document_laws.proofs.{Openers.row_of-same, Places.{IsAt, IsNear, ignored_begins, never_beyond}}
+use Rattle.document_laws.proofs.Places.{never_beyond_again, or_front, never_beyond_unknown, no_row_begins, regarded_of}
+use Rattle.document_laws.proofs.{Places.{unknown_opens, unknown_row}, Rows.{accepted, named}}
 
 -- two keywords that are one with a third are one
 pub same-both : (a b c : Keyword) → same a b ≡ true → same a c ≡ true → same b c ≡ true

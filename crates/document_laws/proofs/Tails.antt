@@ -1,20 +1,12 @@
 -- The rest of a document from a section that is open on, in the standard's words.
 use Rattle.std.proofs.Common.{◌≡◌, ℕ, List, [], ◌∷◌, ◌++◌, Option, Some, None, sym, ap, subst}
 use Rattle.std.specs.List.{AllByRecursion}
-use Rattle.item_terms.specs.declared.fault.DocFault.{DocFault}
-use Rattle.item_terms.specs.Items.{Item}
-use Rattle.frame_terms.specs.declared.document.Group.{Group}
-use Rattle.frame_terms.specs.declared.document.Taken.{Taken}
-use Rattle.frame_terms.specs.declared.keyword.Keyword.{Keyword}
-use Rattle.frame_terms.specs.Documents.{Document, group}
-use Rattle.frame_terms.specs.Tables.{Tables}
-use Rattle.document_laws.specs.Counts.{RowsStand}
-use Rattle.document_laws.specs.Order.{Part, items_of, sections_of}
-use Rattle.document_laws.proofs.Parts.{names}
-use Rattle.document_laws.specs.Documents.{AreParts, EndsAt, EndsSo}
-use Rattle.document_laws.specs.Parts.{AreBetween, EndsWithin, HasLast, IsPart}
-use Rattle.document_laws.proofs.Following.{ComeBehind}
-use Rattle.document_laws.proofs.Middles.{NoneInside}
+use Rattle.item_terms.specs.{declared.fault.DocFault.DocFault, Items.Item}
+use Rattle.frame_terms.specs.declared.{document.{Group.Group, Taken.Taken}, keyword.Keyword.Keyword}
+use Rattle.frame_terms.specs.{Documents.{Document, group}, Tables.Tables}
+use Rattle.document_laws.specs.{Counts.RowsStand, Order.{Part, items_of, sections_of}, Documents.{AreParts, EndsAt}}
+use Rattle.document_laws.{specs.{Documents.EndsSo, Parts.{AreBetween, EndsWithin, HasLast, IsPart}}, proofs.Parts.names}
+use Rattle.document_laws.proofs.{Following.ComeBehind, Middles.NoneInside}
 
 module _ {S K V X : Type 0} (tables : Tables S K V X) (length : ℕ) (fault : Option DocFault) where
   -- where a document ends, by the items of the section that is open and the parts behind it

@@ -1,17 +1,10 @@
 -- Each item of each section of a document is one of the input's, in its order.
-use Rattle.std.proofs.Common.{◌≡◌, ℕ, List, [], ◌∷◌, ◌++◌, Option, Some, None, refl, sym, ap, subst}
-use Rattle.std.proofs.Common.{◌∙◌, append_assoc, inl, inr}
-use Rattle.std.specs.Prelude.{All}
-use Rattle.std.proofs.lemmas.List.Elements.{All-cons, All-nil}
-use Rattle.item_terms.specs.declared.fault.DocFault.{DocFault}
-use Rattle.item_terms.specs.Items.{Item}
-use Rattle.frame_terms.specs.declared.document.Group.{Group}
-use Rattle.frame_terms.specs.declared.document.Open.{Open}
-use Rattle.frame_terms.specs.declared.document.Taken.{Taken}
-use Rattle.frame_terms.specs.Documents.{Document, group}
+use Rattle.std.proofs.Common.{◌≡◌, ℕ, List, [], ◌∷◌, ◌++◌, Option, Some, None, refl, sym, ap, subst, ◌∙◌, append_assoc}
+use Rattle.std.{proofs.{Common.{inl, inr}, lemmas.List.Elements.{All-cons, All-nil}}, specs.Prelude.All}
+use Rattle.item_terms.specs.{declared.fault.DocFault.DocFault, Items.Item}
+use Rattle.frame_terms.specs.{declared.document.{Group.Group, Open.Open, Taken.Taken}, Documents.{Document, group}}
 use Rattle.frame_terms.specs.Tables.{Tables}
-use Rattle.document_laws.specs.Items.{AreItemsIn, IsItemIn, ItemsAreSaid}
-use Rattle.document_laws.proofs.Rules.{Rules, holds}
+use Rattle.document_laws.{specs.Items.{AreItemsIn, IsItemIn, ItemsAreSaid}, proofs.Rules.{Rules, holds}}
 
 module _ {S K V X : Type 0} (tables : Tables S K V X) where
   -- items are items of more

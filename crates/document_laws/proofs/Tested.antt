@@ -1,25 +1,16 @@
 -- Tables that pass the tests are clear.
 use Rattle.std.proofs.Common.{◌≡◌, Bool, true, false, List, [], ◌∷◌, Option, Some, None, refl, sym, ap, subst, ◌∙◌}
-use Rattle.std.specs.Prelude.{◌&&◌, ◌||◌, not, map, IfSome, is_some, if◌then◌else◌}
-use Rattle.std.specs.List.{AllByRecursion, IsDistinct, list_all}
+use Rattle.std.specs.{Prelude.{◌&&◌, ◌||◌, not, map, IfSome, is_some, if◌then◌else◌}, List.{AllByRecursion, IsDistinct}}
+use Rattle.std.specs.List.{list_all}
 use Rattle.item_terms.specs.Items.{Item}
-use Rattle.frame_terms.specs.declared.keyword.Keyword.{Keyword}
-use Rattle.frame_terms.specs.declared.row.Count.{Count}
-use Rattle.frame_terms.specs.declared.row.Count.TheVariants.{One, Optional, Many}
-use Rattle.frame_terms.specs.declared.row.Row.{Row}
-use Rattle.frame_terms.specs.declared.section.Again.{Again}
-use Rattle.frame_terms.specs.declared.section.Again.TheVariants.{Nothing, Section, Document}
-use Rattle.frame_terms.specs.declared.section.Shape.{Shape}
-use Rattle.frame_terms.specs.Keywords.{same}
-use Rattle.frame_terms.specs.Order.{following_sections, is_keyword, opener, repeats}
-use Rattle.frame_terms.specs.Rows.{is_many, is_one}
-use Rattle.frame_terms.specs.Sections.{row_of}
-use Rattle.frame_terms.specs.Tables.{Tables}
+use Rattle.frame_terms.specs.declared.{keyword.Keyword.Keyword, row.Count.{Count, TheVariants.{One, Optional, Many}}}
+use Rattle.frame_terms.specs.declared.{row.Row.Row, section.Again.{Again, TheVariants.{Nothing, Section, Document}}}
+use Rattle.frame_terms.specs.{declared.section.Shape.Shape, Keywords.same, Order.{following_sections, is_keyword}}
+use Rattle.frame_terms.specs.{Order.{opener, repeats}, Rows.{is_many, is_one}, Sections.row_of, Tables.Tables}
 use Rattle.frame_laws.proofs.KnownWords.{same-refl}
-use Rattle.document_laws.specs.Sound.{AreSound, IsInner, StandsOnce, ends_document}
-use Rattle.document_laws.specs.Clear.{AreClear, IsEnd, IsEntrance}
-use Rattle.document_laws.specs.Tests.{IsRegarded, PassTests, differ, each, ends_well, if_there, is_again, is_empty}
-use Rattle.document_laws.specs.Tests.{is_inner, is_there, may_enter, once}
+use Rattle.document_laws.specs.{Sound.{AreSound, IsInner, StandsOnce, ends_document}, Clear.{AreClear, IsEnd}}
+use Rattle.document_laws.specs.{Clear.IsEntrance, Tests.{IsRegarded, PassTests, differ, each, ends_well, if_there}}
+use Rattle.document_laws.specs.Tests.{is_again, is_empty, is_inner, is_there, may_enter, once}
 
 -- ---- tests of truth values and lists
 

@@ -1,17 +1,10 @@
 -- How often items stand, and the rows that lack theirs.
-use Rattle.std.proofs.Common.{◌≡◌, ℕ, ◌+◌, ◌≤◌, Bool, true, false, List, [], ◌∷◌, ◌++◌, Some, None, refl, sym, ap}
-use Rattle.std.proofs.Common.{◌∙◌, arith, subst}
-use Rattle.std.specs.Prelude.{cond, ◌||◌, if◌then◌else◌}
-use Rattle.std.specs.List.{find}
-use Rattle.std.proofs.lemmas.List.Sums.{sum_by-append, sum_by-cons}
-use Rattle.frame_terms.specs.declared.document.Taken.{Taken}
-use Rattle.frame_terms.specs.declared.keyword.Keyword.{Keyword}
-use Rattle.frame_terms.specs.declared.row.Count.{Count}
-use Rattle.frame_terms.specs.declared.row.Count.TheVariants.{One, Optional, Many}
-use Rattle.frame_terms.specs.declared.row.Row.{Row}
-use Rattle.frame_terms.specs.Keywords.{same}
-use Rattle.frame_terms.specs.Rows.{is_many, is_one}
-use Rattle.frame_terms.specs.Sections.{keyword_if, row_of, stands}
+use Rattle.std.proofs.Common.{◌≡◌, ℕ, ◌+◌, ◌≤◌, Bool, true, false, List, [], ◌∷◌, ◌++◌, Some, None, refl, sym, ap, ◌∙◌}
+use Rattle.std.{proofs.{Common.{arith, subst}, lemmas.List.Sums.{sum_by-append, sum_by-cons}}, specs.Prelude.cond}
+use Rattle.std.specs.{Prelude.{◌||◌, if◌then◌else◌}, List.find}
+use Rattle.frame_terms.specs.declared.{document.Taken.Taken, keyword.Keyword.Keyword, row.Count.Count}
+use Rattle.frame_terms.specs.{declared.row.{Count.TheVariants.{One, Optional, Many}, Row.Row}, Keywords.same}
+use Rattle.frame_terms.specs.{Rows.{is_many, is_one}, Sections.{keyword_if, row_of, stands}}
 use Rattle.frame_laws.proofs.KnownWords.{same-sym, same-through}
 use Rattle.document_laws.specs.Counts.{IsCount, times}
 

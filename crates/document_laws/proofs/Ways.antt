@@ -1,21 +1,13 @@
 -- The ways in which an item may stand in a document: what it may make, and why.
-use Rattle.std.proofs.Common.{◌≡◌, true, false, List, [], Some, None}
-use Rattle.std.specs.Prelude.{◌⊎◌, not, ◌&&◌}
+use Rattle.std.{proofs.Common.{◌≡◌, true, false, List, [], Some, None}, specs.Prelude.{◌⊎◌, not, ◌&&◌}}
 use Rattle.item_terms.specs.Items.{Item}
-use Rattle.frame_terms.specs.declared.document.Group.{Group}
-use Rattle.frame_terms.specs.declared.document.Made.{Made}
-use Rattle.frame_terms.specs.declared.document.Made.TheVariants.{Passes, Pushes, Opens, Enters, Leaves, Ends, Stops}
-use Rattle.frame_terms.specs.declared.document.Open.{Open}
-use Rattle.frame_terms.specs.declared.document.Taken.{Taken}
-use Rattle.frame_terms.specs.declared.keyword.Keyword.{Keyword}
+use Rattle.frame_terms.specs.declared.document.{Group.Group, Made.{Made, TheVariants.{Passes, Pushes, Opens, Enters}}}
+use Rattle.frame_terms.specs.declared.document.{Made.TheVariants.{Leaves, Ends, Stops}, Open.Open, Taken.Taken}
+use Rattle.frame_terms.specs.{declared.keyword.Keyword.Keyword, Keywords.same, Order.{following_sections, inner}}
+use Rattle.frame_terms.specs.{Order.{is_keyword, opened_by, opener, passed_over}, Rows.is_many}
+use Rattle.frame_terms.specs.{Sections.{lacking_keyword, lacking_but, row_of, stands}, Tables.Tables}
 use Rattle.frame_terms.specs.declared.section.Again.TheVariants as again
-use Rattle.frame_terms.specs.Keywords.{same}
-use Rattle.frame_terms.specs.Order.{following_sections, inner, is_keyword, opened_by, opener, passed_over}
-use Rattle.frame_terms.specs.Rows.{is_many}
-use Rattle.frame_terms.specs.Sections.{lacking_keyword, lacking_but, row_of, stands}
-use Rattle.frame_terms.specs.Tables.{Tables}
-use Rattle.document_laws.specs.Items.{IsItemOf}
-use Rattle.document_laws.specs.Passing.{IsPassedIn}
+use Rattle.document_laws.specs.{Items.IsItemOf, Passing.IsPassedIn}
 
 -- an item that its section takes behind these
 pub record IsAccepted {S K V X : Type 0} (tables : Tables S K V X) (across : X) (section : S) (before : List (Taken V))

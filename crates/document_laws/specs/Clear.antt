@@ -1,14 +1,8 @@
 -- What the tables of a kind of document have to be, so that each item has one place.
-use Rattle.std.specs.Prelude.{◌≡◌, false, IfSome, Some, None}
-use Rattle.std.specs.List.{AllByRecursion}
+use Rattle.std.specs.{Prelude.{◌≡◌, false, IfSome, Some, None}, List.AllByRecursion}
 use Rattle.item_terms.specs.Items.{Item}
-use Rattle.frame_terms.specs.declared.keyword.Keyword.{Keyword}
-use Rattle.frame_terms.specs.declared.row.Row.{Row}
-use Rattle.frame_terms.specs.Keywords.{same}
-use Rattle.frame_terms.specs.Order.{following_sections, is_keyword, opener, repeats}
-use Rattle.frame_terms.specs.Rows.{is_many}
-use Rattle.frame_terms.specs.Sections.{row_of}
-use Rattle.frame_terms.specs.Tables.{Tables}
+use Rattle.frame_terms.specs.{declared.{keyword.Keyword.Keyword, row.Row.Row}, Keywords.same, Order.following_sections}
+use Rattle.frame_terms.specs.{Order.{is_keyword, opener, repeats}, Rows.is_many, Sections.row_of, Tables.Tables}
 use Rattle.document_laws.specs.Sound.{AreSound, StandsOnce}
 
 -- The item that begins a section inside another is one of that other, stands in it once or not at all, is never ignored,

@@ -1,16 +1,9 @@
 -- How often the items of a section stand (dir-spec, "Document meta-format": once, at most once, any number of times).
-use Rattle.std.specs.Prelude.{◌≡◌, ℕ, ◌≤◌, List, All, Some, Ok}
-use Rattle.std.specs.List.{count_by}
+use Rattle.std.specs.{Prelude.{◌≡◌, ℕ, ◌≤◌, List, All, Some, Ok}, List.count_by}
 use Rattle.item_terms.specs.Items.{Contents}
-use Rattle.frame_terms.specs.declared.document.Taken.{Taken}
-use Rattle.frame_terms.specs.declared.keyword.Keyword.{Keyword}
-use Rattle.frame_terms.specs.declared.row.Count.{Count}
-use Rattle.frame_terms.specs.declared.row.Count.TheVariants.{One, Optional, Many}
-use Rattle.frame_terms.specs.declared.row.Row.{Row}
-use Rattle.frame_terms.specs.Documents.{Document, document_of}
-use Rattle.frame_terms.specs.Keywords.{same}
-use Rattle.frame_terms.specs.Sections.{row_of}
-use Rattle.frame_terms.specs.Tables.{Tables}
+use Rattle.frame_terms.specs.declared.{document.Taken.Taken, keyword.Keyword.Keyword, row.Count.Count}
+use Rattle.frame_terms.specs.{declared.row.{Count.TheVariants.{One, Optional, Many}, Row.Row}, Documents.Document}
+use Rattle.frame_terms.specs.{Documents.document_of, Keywords.same, Sections.row_of, Tables.Tables}
 
 module _ {V : Type 0} where
   -- how many items of a keyword stand

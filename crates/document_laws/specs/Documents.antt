@@ -1,17 +1,11 @@
 -- Documents of any number of sections (dir-spec, "Vote and consensus status document formats").
 use Rattle.std.specs.Prelude.{◌≡◌, ◌↔◌, ◌⊎◌, ◌++◌, ℕ, true, List, [], ◌∷◌, map, Option, Some, None, Ok}
-use Rattle.item_terms.specs.declared.fault.DocFault.{DocFault}
-use Rattle.item_terms.specs.Items.{Item, Contents}
-use Rattle.frame_terms.specs.declared.keyword.Keyword.{Keyword}
+use Rattle.item_terms.specs.{declared.fault.DocFault.DocFault, Items.{Item, Contents}}
+use Rattle.frame_terms.specs.{declared.keyword.Keyword.Keyword, Documents.{Document, document_of}, Keywords.same}
+use Rattle.frame_terms.specs.{Keywords.word_of, Order.opener, Tables.Tables}
 use Rattle.frame_terms.specs.declared.section.Again.TheVariants as again
-use Rattle.frame_terms.specs.Documents.{Document, document_of}
-use Rattle.frame_terms.specs.Keywords.{same, word_of}
-use Rattle.frame_terms.specs.Order.{opener}
-use Rattle.frame_terms.specs.Tables.{Tables}
-use Rattle.document_laws.specs.Order.{AreInOrder, Part, items_of, sections_of}
-use Rattle.document_laws.specs.Passing.{EndsWith, EndsWithInput}
-use Rattle.document_laws.specs.Clear.{AreClear}
-use Rattle.document_laws.specs.Parts.{IsPart}
+use Rattle.document_laws.specs.{Order.{AreInOrder, Part, items_of, sections_of}, Passing.{EndsWith, EndsWithInput}}
+use Rattle.document_laws.specs.{Clear.AreClear, Parts.IsPart}
 
 -- the first of the items that are left begins the next document, with one more opener of the section that is the last
 pub record EndsBeforeNext {S K V X : Type 0} (tables : Tables S K V X) (section : S) (left : List Item) (place : ℕ)

@@ -1,13 +1,8 @@
 -- The items of a section (dir-spec, "Document meta-format").
 use Rattle.std.specs.Prelude.{◌≡◌, ◌⊎◌, ◌++◌, ℕ, List, [], ◌∷◌, All, Some, Ok}
 use Rattle.item_terms.specs.Items.{Item, Contents}
-use Rattle.frame_terms.specs.declared.document.Taken.{Taken}
-use Rattle.frame_terms.specs.declared.keyword.Keyword.{Keyword}
-use Rattle.frame_terms.specs.declared.row.Row.{Row}
-use Rattle.frame_terms.specs.Documents.{Document, document_of}
-use Rattle.frame_terms.specs.Keywords.{word_of}
-use Rattle.frame_terms.specs.Order.{inner}
-use Rattle.frame_terms.specs.Sections.{row_of, taken_of}
+use Rattle.frame_terms.specs.{declared.{document.Taken.Taken, keyword.Keyword.Keyword, row.Row.Row}, Documents.Document}
+use Rattle.frame_terms.specs.{Documents.document_of, Keywords.word_of, Order.inner, Sections.{row_of, taken_of}}
 use Rattle.frame_terms.specs.Tables.{Tables}
 
 -- An item by a row of a section's table: its keyword is the row's, and it says what the row's kind gives where this is

@@ -1,17 +1,11 @@
 -- What is known of a document of which some bytes have come.
 use Rattle.std.specs.Prelude.{◌≡◌, ℕ, Bool, true, false, List, ◌++◌, length, Result, Ok, Err}
 use Rattle.item_terms.specs.Items.{Item}
-use Rattle.dirdoc_grammar.specs.declared.cursor.Cursor.{Cursor}
-use Rattle.dirdoc_grammar.specs.Cursors.{IsAt}
-use Rattle.frame_terms.specs.declared.document.Open.{Open}
-use Rattle.frame_terms.specs.declared.document.Taken.{Taken}
-use Rattle.frame_terms.specs.declared.fault.FrameFault.{FrameFault}
-use Rattle.frame_terms.specs.declared.fault.FrameReason.{FrameReason}
-use Rattle.frame_terms.specs.declared.fault.FrameReason.TheVariants.{Doc}
-use Rattle.frame_terms.specs.declared.fault.ReadRefusal.{ReadRefusal}
+use Rattle.dirdoc_grammar.specs.{declared.cursor.Cursor.Cursor, Cursors.IsAt}
+use Rattle.frame_terms.specs.declared.{document.{Open.Open, Taken.Taken}, fault.FrameFault.FrameFault}
+use Rattle.frame_terms.specs.declared.fault.{FrameReason.{FrameReason, TheVariants.Doc}, ReadRefusal.ReadRefusal}
 use Rattle.frame_terms.specs.Tables.{Tables}
-use Rattle.frame_reader.specs.Arriving.{Feeds, whole_of}
-use Rattle.frame_reader.specs.declared.arriving.Reached.TheVariants.{All}
+use Rattle.frame_reader.specs.Arriving.{AllIsRead, whole_of}
 
 -- whether a fault is one of a line or an object
 abbrev pub is_doc : FrameReason → Bool
@@ -36,11 +30,11 @@ module _ {S K V X F : Type 0} where
       → ((more : List ℕ) → whole_of with_ tables none limit (length (bytes ++ more)) (bytes ++ more) ≡ answer) → ⊥
 
 module _ {S K V X : Type 0} where
-  -- Where feeding answers that all was read, whatever is kept of a document, the document is not known yet. So nothing
-  -- of it was held back.
+  -- Where all that has come of a document is read, whatever is kept of it, the document is not known yet. So nothing of
+  -- it was held back.
   abbrev pub AllIsOpen : Type 0 → Tables S K V X → Type 0
   AllIsOpen F tables =
       HasNoDoc tables → (with_ : F → S → List (Taken V) → F) (none facts : F) (bytes : List ℕ) (cursor : Cursor)
       (across : X) (open_ : Open S V) → IsAt bytes cursor
-      → Feeds with_ tables none bytes cursor across open_ facts (Ok All)
+      → AllIsRead with_ tables none bytes cursor across open_ facts
       → IsOpen with_ tables none cursor.limit bytes

@@ -1,16 +1,10 @@
 -- The order of the sections (dir-spec, "Document meta-format").
 use Rattle.std.specs.Prelude.{◌≡◌, true, ◌++◌, ℕ, List, [], ◌∷◌, All, map, replicate, Some, Ok}
 use Rattle.item_terms.specs.Items.{Contents, Item}
-use Rattle.frame_terms.specs.declared.document.Group.{Group}
-use Rattle.frame_terms.specs.declared.document.Taken.{Taken}
-use Rattle.frame_terms.specs.declared.section.Again.{Again}
-use Rattle.frame_terms.specs.declared.section.Again.TheVariants.{Nothing, Section, Document as NextDocument}
-use Rattle.frame_terms.specs.Documents.{Document, document_of}
-use Rattle.frame_terms.specs.Keywords.{same}
-use Rattle.frame_terms.specs.Order.{opener}
-use Rattle.frame_terms.specs.Tables.{Tables}
-use Rattle.document_laws.specs.Items.{AreItemsIn}
-use Rattle.document_laws.specs.Sound.{AreSound}
+use Rattle.frame_terms.specs.declared.{document.{Group.Group, Taken.Taken}, section.Again.{Again, TheVariants.Nothing}}
+use Rattle.frame_terms.specs.declared.section.Again.TheVariants.{Section, Document as NextDocument}
+use Rattle.frame_terms.specs.{Documents.{Document, document_of}, Keywords.same, Order.opener, Tables.Tables}
+use Rattle.document_laws.specs.{Items.AreItemsIn, Sound.AreSound}
 
 -- a section that stands inside no other, those inside it, which end before it, and the items of the input that they have
 pub record Part (S V : Type 0) : Type 0 where

@@ -2,18 +2,9 @@
 use Rattle.std.specs.Prelude.{◌≡◌, ◌⊎◌, ◌++◌, ◌+◌, ◌≤◌, ℕ, true, false, List, [], ◌∷◌, Option, Some, None, Ok}
 use Rattle.std.specs.List.{AllByRecursion}
 use Rattle.item_terms.specs.Items.{Item}
-use Rattle.frame_terms.specs.declared.document.Group.{Group}
-use Rattle.frame_terms.specs.declared.document.Taken.{Taken}
-use Rattle.frame_terms.specs.declared.keyword.Keyword.{Keyword}
-use Rattle.frame_terms.specs.declared.row.Limit.{Limit}
-use Rattle.frame_terms.specs.Keywords.{same}
-use Rattle.frame_terms.specs.Order.{inner, is_keyword, opener}
-use Rattle.frame_terms.specs.Rows.{limit_number}
-use Rattle.frame_terms.specs.Tables.{Tables}
-use Rattle.document_laws.specs.Counts.{RowsStand}
-use Rattle.document_laws.specs.Items.{IsItemOf}
-use Rattle.document_laws.specs.Order.{Part}
-use Rattle.document_laws.specs.Passing.{IsPassedIn}
+use Rattle.frame_terms.specs.declared.{document.{Group.Group, Taken.Taken}, keyword.Keyword.Keyword, row.Limit.Limit}
+use Rattle.frame_terms.specs.{Keywords.same, Order.{inner, is_keyword, opener}, Rows.limit_number, Tables.Tables}
+use Rattle.document_laws.specs.{Counts.RowsStand, Items.IsItemOf, Order.Part, Passing.IsPassedIn}
 
 -- an item of a row of a section that the tables do not ignore, and that may stand behind those before it
 pub record Stands {S K V X : Type 0} (tables : Tables S K V X) (remembered : X) (section : S) (item : Item)

@@ -1,13 +1,8 @@
 -- What is passed over, and where a document ends (dir-spec, "Document meta-format").
 use Rattle.std.specs.Prelude.{◌≡◌, ◌⊎◌, ◌++◌, ℕ, true, false, List, [], ◌∷◌, IfSome, Option, Some, None}
-use Rattle.item_terms.specs.declared.fault.DocFault.{DocFault}
-use Rattle.item_terms.specs.Items.{Item}
-use Rattle.frame_terms.specs.declared.keyword.Keyword.{Keyword}
-use Rattle.frame_terms.specs.declared.row.Row.{Row}
-use Rattle.frame_terms.specs.Keywords.{word_of}
-use Rattle.frame_terms.specs.Order.{is_strange}
-use Rattle.frame_terms.specs.Sections.{row_of}
-use Rattle.frame_terms.specs.Tables.{Tables}
+use Rattle.item_terms.specs.{declared.fault.DocFault.DocFault, Items.Item}
+use Rattle.frame_terms.specs.{declared.{keyword.Keyword.Keyword, row.Row.Row}, Keywords.word_of, Order.is_strange}
+use Rattle.frame_terms.specs.{Sections.row_of, Tables.Tables}
 
 -- an item of a row of a section that the tables ignore
 pub record IsIgnored {S K V X : Type 0} (tables : Tables S K V X) (section : S) (item : Item) : Type 0 where

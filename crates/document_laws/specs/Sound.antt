@@ -1,15 +1,8 @@
 -- What the tables of a kind of document have to be, so that its sections have an order.
-use Rattle.std.specs.Prelude.{◌≡◌, true, false, ◌||◌, Bool, List, [], ◌∷◌, map, Some, None, is_some}
-use Rattle.std.specs.List.{IsDistinct}
-use Rattle.frame_terms.specs.declared.keyword.Keyword.{Keyword}
-use Rattle.frame_terms.specs.declared.row.Count.TheVariants.{One}
-use Rattle.frame_terms.specs.declared.row.Row.{Row}
-use Rattle.frame_terms.specs.declared.section.Again.{Again}
-use Rattle.frame_terms.specs.declared.section.Again.TheVariants.{Nothing, Section, Document}
-use Rattle.frame_terms.specs.Keywords.{same}
-use Rattle.frame_terms.specs.Order.{following_sections, opener}
-use Rattle.frame_terms.specs.Sections.{row_of}
-use Rattle.frame_terms.specs.Tables.{Tables}
+use Rattle.std.specs.{Prelude.{◌≡◌, true, false, ◌||◌, Bool, List, [], ◌∷◌, map, Some, None, is_some}, List.IsDistinct}
+use Rattle.frame_terms.specs.declared.{keyword.Keyword.Keyword, row.{Count.TheVariants.One, Row.Row}}
+use Rattle.frame_terms.specs.{declared.section.Again.{Again, TheVariants.{Nothing, Section, Document}}, Keywords.same}
+use Rattle.frame_terms.specs.{Order.{following_sections, opener}, Sections.row_of, Tables.Tables}
 
 -- a keyword whose item stands once in a section
 pub record StandsOnce {S K V X : Type 0} (tables : Tables S K V X) (section : S) (keyword : Keyword) : Type 0 where

@@ -1,16 +1,11 @@
 -- Whether tables are clear, as tests that a kind of document meets by computing.
-use Rattle.std.specs.Prelude.{◌≡◌, true, false, ◌&&◌, ◌||◌, Bool, not, List, [], ◌∷◌, map, IfSome, Option, Some, None, is_some}
-use Rattle.std.specs.List.{list_all}
+use Rattle.std.specs.Prelude.{◌≡◌, true, false, ◌&&◌, ◌||◌, Bool, not, List, [], ◌∷◌, map, IfSome, Option, Some, None}
+use Rattle.std.specs.{Prelude.is_some, List.list_all}
 use Rattle.item_terms.specs.Items.{Item}
-use Rattle.frame_terms.specs.declared.keyword.Keyword.{Keyword}
-use Rattle.frame_terms.specs.declared.row.Row.{Row}
-use Rattle.frame_terms.specs.declared.section.Again.{Again}
-use Rattle.frame_terms.specs.declared.section.Again.TheVariants.{Nothing, Section, Document}
-use Rattle.frame_terms.specs.Keywords.{same}
-use Rattle.frame_terms.specs.Order.{following_sections, is_keyword, opener, repeats}
-use Rattle.frame_terms.specs.Rows.{is_many, is_one}
-use Rattle.frame_terms.specs.Sections.{row_of}
-use Rattle.frame_terms.specs.Tables.{Tables}
+use Rattle.frame_terms.specs.declared.{keyword.Keyword.Keyword, row.Row.Row, section.Again.{Again, TheVariants.Nothing}}
+use Rattle.frame_terms.specs.{declared.section.Again.TheVariants.{Section, Document}, Keywords.same}
+use Rattle.frame_terms.specs.{Order.{following_sections, is_keyword, opener, repeats}, Rows.{is_many, is_one}}
+use Rattle.frame_terms.specs.{Sections.row_of, Tables.Tables}
 use Rattle.document_laws.specs.Sound.{ends_document}
 
 -- whether no two of some keywords are one

@@ -1,8 +1,6 @@
 // What holds of every document that was read, whatever its tables.
 ghost use Rattle.frame_terms.specs.Tables.{Tables};
-ghost use Rattle.document_laws.specs.Counts.{RowsStandAsOften};
-ghost use Rattle.document_laws.specs.Items.{ItemsAreSaid};
-ghost use Rattle.document_laws.specs.Order.{SectionsStandInOrder};
+ghost use Rattle.document_laws.specs.{Counts.RowsStandAsOften, Items.ItemsAreSaid, Order.SectionsStandInOrder};
 
 /// A law: each item of each section of a document is an item of the input, in its order, by a row of the section's table.
 pub fn items_are_said<S, K, V, X>()

@@ -6,9 +6,11 @@ use dir_http::{
 use std::alloc::Global;
 use std::io::{Read, Write};
 use std::net::{Shutdown, TcpListener, TcpStream};
+use std::rt::Clock;
 use std::sync::OnceLock;
 use std::test::Fail;
 use std::thread;
+use std::time::{Duration, Instant};
 use tcp_edge::TcpGate;
 
 /// As many bytes as are not kept by the sockets of a peer that reads nothing.
@@ -29,15 +31,49 @@ fn answer_one<S: Source, K: Sink>(alloc: Global, input: &mut S, output: &mut K) 
     request.method == Method2::Get && write_response(alloc, output, &response).is_ok()
 }
 
-/// Answers the requests that a gate gives until the peers are done. How many were answered.
-fn answer_all<G: Gate + Drop>(alloc: Global, given: G, done: &OnceLock<bool>) -> u64 {
+/// How often the gates say `Idle`.
+fn period() -> Duration {
+    Duration::from_secs(1)
+}
+
+/// Whether a gate says `Idle` next, and when.
+fn idle_after<R: Clock, G: Gate>(rt: &R, gate: &mut G) -> Option<Duration> {
+    let began = Instant::now(rt).ok()?;
+    match gate.next() {
+        GateAnswer::Idle => began.elapsed(rt).ok(),
+        _ => None,
+    }
+}
+
+/// Whether a gate says `Idle` at once, and then after its period.
+fn idles_in_time<R: Clock, G: Gate>(rt: &R, gate: &mut G) -> bool {
+    match (idle_after(rt, gate), idle_after(rt, gate)) {
+        (Some(first), Some(second)) => first < period() && second >= period(),
+        _ => false,
+    }
+}
+
+/// Answers the requests that a gate gives until the peers are done, and rests for longer than its period before it asks the
+/// gate first, and at each `Idle`. How many were answered.
+fn answer_all<R: Clock, G: Gate + Drop>(
+    alloc: Global,
+    rt: &R,
+    given: G,
+    done: &OnceLock<bool>,
+) -> u64 {
     let mut gate = given;
     let mut answered = 0u64;
+    let mut idle = true;
     for _ in 0..30 {
         if done.get().is_some() {
             break;
         }
+        if idle {
+            thread::sleep(rt, Duration::from_millis(1500));
+        }
+        idle = true;
         if let GateAnswer::Connection(mut input, mut output) = gate.next() {
+            idle = false;
             if answer_one(alloc, &mut input, &mut output) {
                 answered = answered.saturating_add(1);
             }
@@ -77,9 +113,9 @@ fn read_both(slow: &mut TcpStream, quick: &mut TcpStream, done: &OnceLock<bool>)
 #[test]
 fn silent_and_slow_peers_hold_up_no_other(rt: HostRuntime) -> Result<(), Fail> {
     let cell: OnceLock<TcpListener> = OnceLock::new();
-    let mut gate = TcpGate::serving(rt.alloc(), &rt, &cell);
-    if gate.listen(b"127.0.0.1:0") != ListenAnswer::Listening {
-        return Err(Fail::new("it does not listen"));
+    let mut gate = TcpGate::serving(rt.alloc(), &rt, &cell, period());
+    if gate.listen(b"127.0.0.1:0") != ListenAnswer::Listening || !idles_in_time(&rt, &mut gate) {
+        return Err(Fail::new("it does not listen, or is idle at another time"));
     }
     let address = cell.get().ok_or("no listener")?.local_addr()?;
     let mut silent = TcpStream::connect(&rt, address)?;
@@ -90,7 +126,7 @@ fn silent_and_slow_peers_hold_up_no_other(rt: HostRuntime) -> Result<(), Fail> {
     let (read, answered) = thread::join(
         &rt,
         || read_both(&mut slow, &mut quick, &done),
-        || answer_all(rt.alloc(), gate, &done),
+        || answer_all(rt.alloc(), &rt, gate, &done),
     );
     drop(silent);
     if !begun || !read || answered != 2 {
@@ -132,7 +168,7 @@ fn next_fault<G: Gate>(alloc: Global, gate: &mut G) -> Result<Option<HttpFault>,
 #[test]
 fn a_peer_may_end_too_early(rt: HostRuntime) -> Result<(), Fail> {
     let cell: OnceLock<TcpListener> = OnceLock::new();
-    let mut gate = TcpGate::serving(rt.alloc(), &rt, &cell);
+    let mut gate = TcpGate::serving(rt.alloc(), &rt, &cell, period());
     if gate.listen(b"127.0.0.1:0") != ListenAnswer::Listening {
         return Err(Fail::new("it does not listen"));
     }

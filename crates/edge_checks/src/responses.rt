@@ -29,9 +29,10 @@ const RESPONSES: [(&[u8], u16, usize); 4] = [
     ),
 ];
 
-/// No whole responses: nothing, and a body of one byte more and of one fewer than it says.
-const BROKEN: [&[u8]; 3] = [
+/// No whole responses: nothing, a body that is compressed, and one of one byte more and of one fewer than it says.
+const BROKEN: [&[u8]; 4] = [
     b"",
+    b"HTTP/1.0 200 OK\r\ncontent-encoding: gzip\r\n\r\nabc",
     b"HTTP/1.0 200 OK\r\nContent-Length: 2\r\n\r\nabc",
     b"HTTP/1.0 200 OK\r\nContent-Length: 4\r\n\r\nabc",
 ];

@@ -1,10 +1,8 @@
 -- Texts that were written whole or in part.
-use Rattle.std.proofs.Common.{◌≡◌, ℕ, ◌+◌, ◌<◌, List, ◌++◌, length, take, drop, get_or, suc, ap, sym, subst, ◌∙◌, Some, None, Option, append_assoc, take_all, arith}
-use Rattle.std.specs.List.{flat_map}
-use Rattle.std.specs.Io.KnownBytes.{Appends}
-use Rattle.std.proofs.lemmas.List.{take-append-drop, take-append-le}
-use Rattle.std.proofs.lemmas.List.Concat.{flat_map-append}
-use Rattle.std.proofs.Math.Seq.{drop-cons, take-append-add}
+use Rattle.std.proofs.Common.{◌≡◌, ℕ, ◌+◌, ◌<◌, List, ◌++◌, length, take, drop, get_or, suc, ap, sym, subst, ◌∙◌, Some}
+use Rattle.std.proofs.{Common.{None, Option, append_assoc, take_all, arith}, lemmas.List.take-append-drop}
+use Rattle.std.proofs.{lemmas.List.{take-append-le, Concat.flat_map-append}, Math.Seq.{drop-cons, take-append-add}}
+use Rattle.std.specs.{List.flat_map, Io.KnownBytes.Appends}
 use Rattle.dir_bytes.specs.Causes.{Rose}
 use Rattle.exit_status.specs.Reports.{Reports}
 

@@ -2,10 +2,8 @@
 use Rattle.std.specs.Prelude.{ℕ, List, [], ◌∷◌, codes, decimal}
 use Rattle.item_terms.specs.declared.fault.DocReason.{DocReason}
 use Rattle.item_terms.specs.declared.fault.DocReason.TheVariants as doc
-use Rattle.frame_terms.specs.declared.fault.FrameReason.{FrameReason}
+use Rattle.frame_terms.specs.{declared.fault.FrameReason.FrameReason, Keywords.text_of, Rows.{limit_name, limit_number}}
 use Rattle.frame_terms.specs.declared.fault.FrameReason.TheVariants as reason
-use Rattle.frame_terms.specs.Keywords.{text_of}
-use Rattle.frame_terms.specs.Rows.{limit_name, limit_number}
 use Rattle.daemon_words.specs.declared.command.Kind.{Kind}
 use Rattle.daemon_words.specs.declared.command.Kind.TheVariants as kind
 use Rattle.exit_status.specs.Parts.{at_place, end}

@@ -1,14 +1,10 @@
 -- The line that each status writes, and its number.
 use Rattle.std.specs.Prelude.{ℕ, List, [], ◌∷◌, codes}
-use Rattle.exit_status.specs.BandwidthLines.{bandwidth_number, bandwidth_parts}
-use Rattle.exit_status.specs.DocumentLines.{document_limit, fault_number, fault_parts}
-use Rattle.exit_status.specs.Parts.{end, joined_parts}
-use Rattle.exit_status.specs.ReportLines.{report_number, report_parts}
-use Rattle.exit_status.specs.StationLines.{station_number, station_parts}
-use Rattle.exit_status.specs.VoteLines.{votes_number, votes_parts}
-use Rattle.exit_status.specs.declared.status.Refusal.{Refusal}
+use Rattle.exit_status.specs.{BandwidthLines.{bandwidth_number, bandwidth_parts}, DocumentLines.document_limit}
+use Rattle.exit_status.specs.{DocumentLines.{fault_number, fault_parts}, Parts.{end, joined_parts}}
+use Rattle.exit_status.specs.{ReportLines.{report_number, report_parts}, StationLines.{station_number, station_parts}}
+use Rattle.exit_status.specs.{VoteLines.{votes_number, votes_parts}, declared.status.{Refusal.Refusal, Status.Status}}
 use Rattle.exit_status.specs.declared.status.Refusal.TheVariants as refusal
-use Rattle.exit_status.specs.declared.status.Status.{Status}
 use Rattle.exit_status.specs.declared.status.Status.TheVariants as status
 
 -- the parts of a refusal's line: a line for each family of reasons

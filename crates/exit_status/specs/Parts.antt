@@ -1,6 +1,5 @@
 -- A line of several parts.
-use Rattle.std.specs.Prelude.{ℕ, List, [], ◌∷◌, codes, decimal}
-use Rattle.std.specs.List.{flat_map}
+use Rattle.std.specs.{Prelude.{ℕ, List, [], ◌∷◌, codes, decimal}, List.flat_map}
 use Rattle.item_terms.specs.Bytes.{line_feed}
 
 -- what ends a line

@@ -1,6 +1,5 @@
 -- What is said of a line that was written.
-use Rattle.std.specs.Prelude.{ℕ, ◌<◌, List, length, take, Option}
-use Rattle.std.specs.Io.KnownBytes.{Appends}
+use Rattle.std.specs.{Prelude.{ℕ, ◌<◌, List, length, take, Option}, Io.KnownBytes.Appends}
 use Rattle.dir_bytes.specs.Causes.{Rose}
 
 -- A front of the text was written, and all of it unless the count rose.

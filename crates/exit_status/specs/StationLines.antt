@@ -1,16 +1,13 @@
 -- Why a station can make no vote: the line and the number of each reason.
 use Rattle.std.specs.Prelude.{ℕ, List, [], ◌∷◌, codes, decimal}
 use Rattle.daemon_words.specs.declared.command.Kind.TheVariants as kind
-use Rattle.station_commands.specs.declared.refusal.CertWord.{CertWord}
+use Rattle.station_commands.specs.declared.refusal.{CertWord.CertWord, DescriptorWord.DescriptorWord}
+use Rattle.station_commands.specs.declared.refusal.{OrderWord.OrderWord, StationRefusal.StationRefusal}
 use Rattle.station_commands.specs.declared.refusal.CertWord.TheVariants as cert
-use Rattle.station_commands.specs.declared.refusal.DescriptorWord.{DescriptorWord}
 use Rattle.station_commands.specs.declared.refusal.DescriptorWord.TheVariants as descriptor
-use Rattle.station_commands.specs.declared.refusal.OrderWord.{OrderWord}
 use Rattle.station_commands.specs.declared.refusal.OrderWord.TheVariants as word
-use Rattle.station_commands.specs.declared.refusal.StationRefusal.{StationRefusal}
 use Rattle.station_commands.specs.declared.refusal.StationRefusal.TheVariants as station
-use Rattle.exit_status.specs.DocumentLines.{document_limit, fault_number, fault_parts}
-use Rattle.exit_status.specs.Parts.{end}
+use Rattle.exit_status.specs.{DocumentLines.{document_limit, fault_number, fault_parts}, Parts.end}
 
 -- the word of a line for what is wrong with what a station is given
 abbrev pub order_text : OrderWord → List ℕ

@@ -10,9 +10,9 @@ use Rattle.compute_command.specs.declared.refusal.VoteListRefusal.TheVariants as
 use Rattle.report_command.specs.declared.refusal.ReportRefusal.{ReportRefusal}
 use Rattle.report_command.specs.declared.refusal.ReportRefusal.TheVariants as report
 use Rattle.station_commands.specs.declared.refusal.MakeVoteRefusal.{MakeVoteRefusal}
+use Rattle.station_commands.specs.declared.file_refusal.FileVoteRefusal.{FileVoteRefusal}
 use Rattle.station_commands.specs.declared.refusal.MakeVoteRefusal.TheVariants as vote
 use Rattle.station_commands.specs.declared.file_refusal.BandwidthRefusal.TheVariants as bandwidth
-use Rattle.station_commands.specs.declared.file_refusal.FileVoteRefusal.{FileVoteRefusal}
 use Rattle.station_commands.specs.declared.file_refusal.FileVoteRefusal.TheVariants as file
 use Rattle.serve_command.specs.declared.refusal.ServeRefusal.{ServeRefusal}
 use Rattle.serve_command.specs.declared.refusal.ServeRefusal.TheVariants as serve

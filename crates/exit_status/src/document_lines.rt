@@ -1,8 +1,7 @@
 // The line and the number of each fault of an input that is read as documents of a kind.
 ghost use Rattle.std.specs.Prelude.{◌≡◌, ◌≤◌, []};
 ghost use Rattle.exit_status.specs.DocumentLines as lines;
-ghost use Rattle.exit_status.specs.Parts.{joined_parts};
-ghost use Rattle.exit_status.specs.Reports.{Reports};
+ghost use Rattle.exit_status.specs.{Parts.joined_parts, Reports.Reports};
 
 use crate::parts::{report_at, write_parts};
 use daemon_words::Kind;

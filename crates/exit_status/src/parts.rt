@@ -1,8 +1,6 @@
 // A line of several parts on a sink. It takes no memory.
-ghost use Rattle.std.specs.Prelude.{◌≡◌, ◌≤◌, []};
-ghost use Rattle.std.specs.List.{flat_map};
-ghost use Rattle.exit_status.specs.Parts.{at_place, joined_parts};
-ghost use Rattle.exit_status.specs.Reports.{Reports};
+ghost use Rattle.std.specs.{Prelude.{◌≡◌, ◌≤◌, []}, List.flat_map};
+ghost use Rattle.exit_status.specs.{Parts.{at_place, joined_parts}, Reports.Reports};
 
 use dir_bytes::{Sink, WriteAll, write_all};
 

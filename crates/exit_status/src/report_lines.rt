@@ -1,8 +1,7 @@
 // The line and the number of each reason why an input gives no report.
 ghost use Rattle.std.specs.Prelude.{◌≡◌, ◌≤◌, []};
-ghost use Rattle.exit_status.specs.Parts.{joined_parts};
+ghost use Rattle.exit_status.specs.{Parts.joined_parts, Reports.Reports};
 ghost use Rattle.exit_status.specs.ReportLines as lines;
-ghost use Rattle.exit_status.specs.Reports.{Reports};
 
 use crate::parts::{report_at, write_parts};
 use dir_bytes::Sink;

@@ -1,8 +1,7 @@
 // The line and the number of each reason why a station can make no vote.
 ghost use Rattle.std.specs.Prelude.{◌≡◌, ◌≤◌, []};
 ghost use Rattle.exit_status.specs.StationLines as lines;
-ghost use Rattle.exit_status.specs.Parts.{joined_parts};
-ghost use Rattle.exit_status.specs.Reports.{Reports};
+ghost use Rattle.exit_status.specs.{Parts.joined_parts, Reports.Reports};
 
 use crate::document_lines::{document_limit, fault_number, report_fault};
 use crate::parts::write_parts;

@@ -1,8 +1,6 @@
 // The line of a status on the errors sink. It takes no memory.
 ghost use Rattle.std.specs.Prelude.{◌≡◌, ◌≤◌, []};
-ghost use Rattle.exit_status.specs.Lines.{line_of, refusal_parts};
-ghost use Rattle.exit_status.specs.Parts.{joined_parts};
-ghost use Rattle.exit_status.specs.Reports.{Reports};
+ghost use Rattle.exit_status.specs.{Lines.{line_of, refusal_parts}, Parts.joined_parts, Reports.Reports};
 
 use crate::bandwidth_lines::report_bandwidth;
 use crate::document_lines::{document_limit, report_fault};

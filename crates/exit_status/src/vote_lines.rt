@@ -1,8 +1,7 @@
 // The line and the number of each reason why a list of votes gives no consensus.
 ghost use Rattle.std.specs.Prelude.{◌≡◌, ◌≤◌, []};
 ghost use Rattle.exit_status.specs.VoteLines as lines;
-ghost use Rattle.exit_status.specs.Parts.{joined_parts};
-ghost use Rattle.exit_status.specs.Reports.{Reports};
+ghost use Rattle.exit_status.specs.{Parts.joined_parts, Reports.Reports};
 
 use crate::parts::write_parts;
 use compute_command::VoteListRefusal;

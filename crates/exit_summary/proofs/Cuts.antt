@@ -1,16 +1,12 @@
 -- A summary that is cut has as many ranges as there is room for.
 use Rattle.std.proofs.Common.{◌≡◌, ℕ, zero, suc, ◌-◌, ◌≤◌, Bool, true, false, List, [], ◌∷◌, length, take, refl, sym}
-use Rattle.std.proofs.Common.{ap}
-use Rattle.std.proofs.Common.{subst, arith, length-append}
+use Rattle.std.proofs.{Common.{ap, subst, arith, length-append}, lemmas.Bool.{leb-false, ltb-true}}
 use Rattle.std.specs.Prelude.{nat_le, min, if◌then◌else◌}
-use Rattle.std.proofs.lemmas.Bool.{leb-false, ltb-true}
-use Rattle.dir_values.specs.declared.port_range.PortRange.{PortRange}
-use Rattle.dir_values.specs.Ports.{Ports, range_text, entries_text}
+use Rattle.dir_values.specs.{declared.port_range.PortRange.PortRange, Ports.{Ports, range_text, entries_text}}
 use Rattle.item_terms.specs.Bytes.{space, comma}
 use Rattle.exit_summary.specs.Summaries.{accepted_ranges, rejected_ranges, accepted_ports, rejected_ports, most_bytes}
 use Rattle.exit_summary.specs.Summaries.{most_behind_word, size_of, ranges_fitting, cut_summary, are_long, of_ranges}
-use Rattle.exit_summary.specs.Summaries.{IsLongestFront, CutsAreLongest}
-use Rattle.exit_summary.proofs.Fitting.{taken_by}
+use Rattle.exit_summary.{specs.Summaries.{IsLongestFront, CutsAreLongest}, proofs.Fitting.taken_by}
 
 -- the ranges that fit stand in front
 front : (room : ℕ) (ranges : List PortRange) → ranges_fitting room ranges ≡ take (length (ranges_fitting room ranges)) ranges

@@ -1,14 +1,10 @@
 -- The ranges that fit.
-use Rattle.std.proofs.Common.{◌≡◌, ℕ, suc, ◌+◌, ◌-◌, ◌<◌, ◌≤◌, true, false, List, [], ◌∷◌, ◌++◌, length, drop, get_or}
-use Rattle.std.proofs.Common.{refl, ap, ◌∙◌, arith, drop-cons, length-append}
-use Rattle.std.specs.Prelude.{nat_le, ◌==◌, if◌then◌else◌}
-use Rattle.std.specs.Fmt.{decimal}
-use Rattle.std.proofs.lemmas.Bool.{and_from, and_parts, le-leb, lt-leb}
-use Rattle.std.proofs.lemmas.Fmt.{length-decimal-le}
+use Rattle.std.proofs.Common.{◌≡◌, ℕ, ◌+◌, ◌-◌, ◌≤◌, true, false, List, [], ◌∷◌, ◌++◌, length, refl, ap, arith}
+use Rattle.std.proofs.{Common.length-append, lemmas.{Bool.{and_from, and_parts, le-leb}, Fmt.length-decimal-le}}
+use Rattle.std.specs.{Prelude.{nat_le, ◌==◌, if◌then◌else◌}, Fmt.decimal}
 use Rattle.item_terms.specs.Bytes.{hyphen}
-use Rattle.dir_values.specs.declared.port_range.PortRange.{PortRange}
-use Rattle.dir_values.specs.Ports.{last_port, are_apart, are_ranges, range_text}
-use Rattle.dir_values.proofs.Apart.{first_apart, apart_first}
+use Rattle.dir_values.specs.{declared.port_range.PortRange.PortRange, Ports.{last_port, are_apart, are_ranges}}
+use Rattle.dir_values.{specs.Ports.range_text, proofs.Apart.{first_apart, apart_first}}
 use Rattle.exit_summary.specs.Summaries.{most_behind_word, ranges_fitting}
 
 -- how many bytes a range takes, with the byte before it
@@ -61,12 +57,3 @@ fitting_ranges (range ∷ rest) are =
     let one = le-leb 1 (length ranges) (omega (arith, ap (λ (l : List PortRange). length l) some)) in
     and_from (nat_le 1 (length ranges)) (are_apart 1 ranges) one
     (fitting_apart most_behind_word 1 (range ∷ rest) apart)
-
--- where one does not fit, none is taken
-pub no_more : (room : ℕ) (ranges : List PortRange) (i : ℕ) (d : PortRange) → i < length ranges
-    → room ≤ length (range_text (get_or ranges i d)) → ranges_fitting room (drop i ranges) ≡ []
-no_more room ranges i d lt long =
-    let range = get_or ranges i d in
-    let test : nat_le (taken_by range) room ≡ false = lt-leb (taken_by range) room (omega (arith, long)) in
-    let none : ranges_fitting room (range ∷ drop (suc i) ranges) ≡ [] = rw test refl in
-    ap (ranges_fitting room) (drop-cons ranges i d lt) ∙ none

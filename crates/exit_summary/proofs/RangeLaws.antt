@@ -1,12 +1,9 @@
 -- The ranges of the ports that pass a test: they are apart, and have these ports.
-use Rattle.std.proofs.Common.{◌≡◌, ℕ, zero, suc, ◌+◌, ◌<◌, ◌≤◌, Bool, true, false, List, [], ◌∷◌, length, refl, sym}
-use Rattle.std.proofs.Common.{ap, ◌∙◌}
-use Rattle.std.proofs.Common.{arith, ⊎_elim}
-use Rattle.std.specs.Prelude.{nat_le, ◌==◌, if◌then◌else◌}
-use Rattle.std.proofs.lemmas.Bool.{and_from, le-leb, lt-leb, eqb-true, eqb-false, cases_lt}
-use Rattle.dir_values.specs.declared.port_range.PortRange.{PortRange}
-use Rattle.dir_values.specs.Ports.{last_port, in_ranges, are_apart, are_ranges}
-use Rattle.dir_values.proofs.Apart.{first_apart, apart_first}
+use Rattle.std.proofs.Common.{◌≡◌, ℕ, zero, suc, ◌+◌, ◌<◌, ◌≤◌, Bool, true, false, List, [], ◌∷◌, length, refl, sym, ap}
+use Rattle.std.proofs.{Common.{◌∙◌, arith, ⊎_elim}, lemmas.Bool.{and_from, le-leb, lt-leb, eqb-true, eqb-false}}
+use Rattle.std.{proofs.lemmas.Bool.cases_lt, specs.Prelude.{nat_le, ◌==◌, if◌then◌else◌}}
+use Rattle.dir_values.specs.{declared.port_range.PortRange.PortRange, Ports.{last_port, in_ranges, are_apart}}
+use Rattle.dir_values.{specs.Ports.are_ranges, proofs.Apart.{first_apart, apart_first}}
 use Rattle.exit_summary.specs.PortRanges.{with_ports, ranges_down, ranges_of, RangesAreApart, RangesHaveTheirPorts}
 
 -- a stretch of ports

@@ -1,8 +1,6 @@
 -- Stretches of ports of which a test says the same, and the ranges that they make.
 use Rattle.std.proofs.Common.{◌≡◌, ℕ, zero, suc, ◌+◌, ◌-◌, ◌<◌, ◌≤◌, Bool, true, false, List, [], ◌∷◌, refl, sym, ap}
-use Rattle.std.proofs.Common.{◌∙◌, arith}
-use Rattle.std.specs.Prelude.{◌==◌, if◌then◌else◌}
-use Rattle.std.proofs.lemmas.Bool.{eq-eqb}
+use Rattle.std.{proofs.{Common.{◌∙◌, arith}, lemmas.Bool.eq-eqb}, specs.Prelude.{◌==◌, if◌then◌else◌}}
 use Rattle.dir_values.specs.declared.port_range.PortRange.{PortRange}
 use Rattle.exit_summary.specs.PortRanges.{with_ports, ranges_down}
 

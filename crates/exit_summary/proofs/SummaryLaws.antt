@@ -1,17 +1,15 @@
 -- What a summary says of a port, and how long its text is.
 use Rattle.std.proofs.Common.{◌≡◌, ℕ, ◌-◌, ◌≤◌, Bool, true, false, List, [], ◌∷◌, length, refl, sym, ap, ◌∙◌, arith}
-use Rattle.std.proofs.Common.{length-append, ⊎_elim}
-use Rattle.std.specs.Prelude.{nat_le, nat_lt, min, not, if◌then◌else◌}
-use Rattle.std.proofs.lemmas.Bool.{leb-true, leb-false, le-leb, ltb-false, or_cases, or_left, or_right}
+use Rattle.std.proofs.{Common.{length-append, ⊎_elim}, lemmas.Bool.{leb-true, leb-false, le-leb, ltb-false, or_cases}}
+use Rattle.std.{proofs.lemmas.Bool.{or_left, or_right}, specs.Prelude.{nat_le, nat_lt, min, not, if◌then◌else◌}}
 use Rattle.item_terms.specs.Bytes.{space, comma}
-use Rattle.dir_values.specs.declared.port_range.PortRange.{PortRange}
-use Rattle.dir_values.specs.Ports.{Ports, last_port, in_range, in_ranges, accepts, range_text, entries_text}
-use Rattle.exit_summary.specs.Policies.{accepts_port}
-use Rattle.exit_summary.specs.Summaries.{accepted_ranges, rejected_ranges, accepted_ports, rejected_ports, every_port, size_of}
-use Rattle.exit_summary.specs.Summaries.{most_bytes, most_behind_word, ranges_fitting, cut_summary, are_long, shorter, of_ranges}
-use Rattle.exit_summary.specs.Summaries.{SummariesAccept, SummariesAcceptNoMore, SummariesAreShort}
-use Rattle.exit_summary.proofs.Fitting.{taken_by, range_short}
-use Rattle.exit_summary.proofs.RangeLaws.{ranges_ports}
+use Rattle.dir_values.specs.{declared.port_range.PortRange.PortRange, Ports.{Ports, last_port, in_range, in_ranges}}
+use Rattle.dir_values.specs.Ports.{accepts, range_text, entries_text}
+use Rattle.exit_summary.specs.{Policies.accepts_port, Summaries.{accepted_ranges, rejected_ranges, accepted_ports}}
+use Rattle.exit_summary.specs.Summaries.{rejected_ports, every_port, size_of, most_bytes, most_behind_word}
+use Rattle.exit_summary.specs.Summaries.{ranges_fitting, cut_summary, are_long, shorter, of_ranges, SummariesAccept}
+use Rattle.exit_summary.{specs.Summaries.{SummariesAcceptNoMore, SummariesAreShort}, proofs.Fitting.taken_by}
+use Rattle.exit_summary.proofs.{Fitting.range_short, RangeLaws.ranges_ports}
 
 not_not : (a b : Bool) → a ≡ not b → not a ≡ b
 not_not a true is = ap not is

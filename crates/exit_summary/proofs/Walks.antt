@@ -1,14 +1,9 @@
 -- What an item of a policy makes of a port, in the walk over the items.
-use Rattle.std.proofs.Common.{◌≡◌, ℕ, suc, ◌+◌, ◌<◌, ◌≤◌, Bool, true, false, List, [], ◌∷◌, drop, length, get_or}
-use Rattle.std.proofs.Common.{refl, ap, ◌∙◌}
-use Rattle.std.proofs.Common.{arith, map, Some, drop-cons}
-use Rattle.std.specs.Prelude.{nat_le, ◌&&◌, filter, slice_get, if◌then◌else◌}
-use Rattle.std.specs.Option.{option_map}
-use Rattle.std.proofs.lemmas.Bool.{lt-leb, le-leb, and_from}
-use Rattle.std.proofs.lemmas.List.{drop_all}
-use Rattle.std.proofs.lemmas.Option.{slice_get-map, slice_get-get_or}
-use Rattle.dir_values.specs.declared.policy.PolicyItem.{PolicyItem}
-use Rattle.dir_values.specs.declared.policy.Net.TheVariants.{Star}
+use Rattle.std.proofs.Common.{◌≡◌, ℕ, suc, ◌+◌, ◌<◌, ◌≤◌, Bool, true, false, List, [], ◌∷◌, drop, length, get_or, refl}
+use Rattle.std.proofs.{Common.{ap, ◌∙◌, arith, map, Some, drop-cons}, lemmas.Bool.{lt-leb, le-leb, and_from}}
+use Rattle.std.{proofs.lemmas.{List.drop_all, Option.{slice_get-map, slice_get-get_or}}, specs.Prelude.{nat_le, ◌&&◌}}
+use Rattle.std.specs.{Prelude.{filter, slice_get, if◌then◌else◌}, Option.option_map}
+use Rattle.dir_values.specs.declared.policy.{PolicyItem.PolicyItem, Net.TheVariants.Star}
 use Rattle.exit_summary.specs.Policies.{most_rejected, is_every, rejects, covers, accepts_after}
 
 -- an item that no policy has, for places behind the last one

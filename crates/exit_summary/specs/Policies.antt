@@ -1,11 +1,8 @@
 -- What a relay's exit policy says of a port (dir-spec, "Exit policies" and the `p` line; Tor's own rule says of which
 -- policies a port counts as open to most addresses).
-use Rattle.std.specs.Prelude.{IsTrue, ℕ, ◌+◌, ◌-◌, ◌*◌, ◌/◌, ◌^◌, ◌==◌, nat_le, Bool, true, false, ◌&&◌, ◌||◌, List}
-use Rattle.std.specs.Prelude.{[], ◌∷◌}
-use Rattle.std.specs.Prelude.{All, filter, if◌then◌else◌}
-use Rattle.dir_values.specs.declared.policy.Net.{Net}
-use Rattle.dir_values.specs.declared.policy.Net.TheVariants.{Star, V4, V6}
-use Rattle.dir_values.specs.declared.policy.PolicyItem.{PolicyItem}
+use Rattle.std.specs.Prelude.{IsTrue, ℕ, ◌+◌, ◌-◌, ◌*◌, ◌/◌, ◌^◌, ◌==◌, nat_le, Bool, true, false, ◌&&◌, ◌||◌, List, []}
+use Rattle.std.specs.Prelude.{◌∷◌, All, filter, if◌then◌else◌}
+use Rattle.dir_values.specs.declared.policy.{Net.{Net, TheVariants.{Star, V4, V6}}, PolicyItem.PolicyItem}
 
 -- ---- the addresses of an item
 

@@ -1,16 +1,11 @@
 -- The items of a relay's exit policy (dir-spec, "Server descriptor format", the `accept` and `reject` lines, and
 -- "exitpattern"): what their texts spell.
-use Rattle.std.specs.Prelude.{ℕ, ◌-◌, ◌==◌, nat_le, nat_lt, Bool, not, ◌&&◌, if◌then◌else◌, List, length}
-use Rattle.std.specs.Prelude.{take, drop, slice_index, codes, count_ones, Option, Some, None, option_and_then}
-use Rattle.std.specs.Int.{leading_ones, w32}
-use Rattle.std.specs.List.{suffix_len, list_any, before_first, after_first}
-use Rattle.std.specs.Option.{option_map}
-use Rattle.std.specs.Str.{bytes_eq}
+use Rattle.std.specs.Prelude.{ℕ, ◌-◌, ◌==◌, nat_le, nat_lt, Bool, not, ◌&&◌, if◌then◌else◌, List, length, take, drop}
+use Rattle.std.specs.{Prelude.{slice_index, codes, count_ones, Option, Some, None, option_and_then}, Int.leading_ones}
+use Rattle.std.specs.{Int.w32, List.{suffix_len, list_any, before_first, after_first}, Option.option_map, Str.bytes_eq}
 use Rattle.item_terms.specs.Bytes.{hyphen}
 use Rattle.dir_bytes.specs.Fields.{address}
-use Rattle.dir_values.specs.Numbers.{number_of, port_of}
-use Rattle.dir_values.specs.declared.policy.Net.{Net}
-use Rattle.dir_values.specs.declared.policy.Net.TheVariants.{Star, V4, V6}
+use Rattle.dir_values.specs.{Numbers.{number_of, port_of}, declared.policy.Net.{Net, TheVariants.{Star, V4, V6}}}
 use Rattle.dir_values.specs.declared.policy.PolicyItem.{PolicyItem}
 
 -- ---- bytes, and the parts of a text around the last of one

@@ -1,7 +1,6 @@
 -- The ranges of the ports that pass a test.
 use Rattle.std.specs.Prelude.{◌≡◌, ℕ, zero, suc, ◌+◌, ◌≤◌, ◌==◌, Bool, true, List, [], ◌∷◌, if◌then◌else◌}
-use Rattle.dir_values.specs.Ports.{in_ranges, last_port, are_apart}
-use Rattle.dir_values.specs.declared.port_range.PortRange.{PortRange}
+use Rattle.dir_values.specs.{Ports.{in_ranges, last_port, are_apart}, declared.port_range.PortRange.PortRange}
 
 -- ports from a low to a high one, in front of ranges of later ports: the first range grows where it begins next to
 -- them

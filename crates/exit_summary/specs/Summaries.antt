@@ -1,12 +1,9 @@
 -- The summary of a policy (dir-spec, the `p` line).
-use Rattle.std.specs.Prelude.{◌≡◌, ℕ, ◌+◌, ◌-◌, ◌≤◌, nat_le, nat_lt, Bool, true, false, not, min, List, [], ◌∷◌}
-use Rattle.std.specs.Prelude.{length, take}
-use Rattle.std.specs.Prelude.{if◌then◌else◌}
+use Rattle.std.specs.Prelude.{◌≡◌, ℕ, ◌+◌, ◌-◌, ◌≤◌, nat_le, nat_lt, Bool, true, false, not, min, List, [], ◌∷◌, length}
+use Rattle.std.specs.Prelude.{take, if◌then◌else◌}
 use Rattle.dir_values.specs.Ports.{Ports, accepts, last_port, range_text, summary_text}
-use Rattle.dir_values.specs.declared.port_range.PortRange.{PortRange}
-use Rattle.dir_values.specs.declared.policy.PolicyItem.{PolicyItem}
-use Rattle.exit_summary.specs.Policies.{accepts_port}
-use Rattle.exit_summary.specs.PortRanges.{ranges_of}
+use Rattle.dir_values.specs.declared.{port_range.PortRange.PortRange, policy.PolicyItem.PolicyItem}
+use Rattle.exit_summary.specs.{Policies.accepts_port, PortRanges.ranges_of}
 
 -- the ranges of the ports that a policy accepts
 abbrev pub accepted_ranges : List PolicyItem → List PortRange
@@ -100,6 +97,7 @@ pub record IsLongestFront (whole : List PortRange) (front : Ports) : Type 0 wher
   pub longest : (count : ℕ) → count ≤ length whole → size_of (accepted_ports (take count whole)) ≤ most_bytes
       → count ≤ length front.ranges
 
+-- The summary of a policy that is cut is the longest front of its accepted ports that fits.
 abbrev pub CutsAreLongest : Type 0
 CutsAreLongest = (items : List PolicyItem) → is_cut items ≡ true
     → IsLongestFront (accepted_ranges items) (summary_of items)

@@ -2,9 +2,7 @@
 use Rattle.std.specs.Prelude.{ℕ, ◌==◌, ◌&&◌, if◌then◌else◌, List, ◌∷◌, ◌++◌, codes, decimal}
 use Rattle.item_terms.specs.Bytes.{hyphen}
 use Rattle.dir_bytes.specs.FieldTexts.{address_text}
-use Rattle.dir_values.specs.declared.policy.Net.{Net}
-use Rattle.dir_values.specs.declared.policy.Net.TheVariants.{Star, V4, V6}
-use Rattle.dir_values.specs.declared.policy.PolicyItem.{PolicyItem}
+use Rattle.dir_values.specs.declared.policy.{Net.{Net, TheVariants.{Star, V4, V6}}, PolicyItem.PolicyItem}
 use Rattle.exit_summary.specs.PolicyItems.{slash, colon}
 
 -- an IPv4 address and the number of its bits that count: without the number where all do, and `*4` where none of 0.0.0.0

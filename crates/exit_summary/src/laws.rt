@@ -1,6 +1,6 @@
 // Laws of summaries, and of the ranges that they are made of. There is nothing to run.
-ghost use Rattle.exit_summary.specs.PortRanges.{RangesAreApart, RangesHaveTheirPorts};
-ghost use Rattle.exit_summary.specs.Summaries.{SummariesAccept, SummariesAcceptNoMore, SummariesAreShort, CutsAreLongest};
+ghost use Rattle.exit_summary.specs.{PortRanges.{RangesAreApart, RangesHaveTheirPorts}, Summaries.SummariesAccept};
+ghost use Rattle.exit_summary.specs.Summaries.{SummariesAcceptNoMore, SummariesAreShort, CutsAreLongest};
 
 /// The ranges of the ports that pass a test ascend and are apart.
 pub fn ranges_are_apart()

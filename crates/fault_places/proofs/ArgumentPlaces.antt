@@ -1,22 +1,15 @@
 -- The places of an item's arguments, and of what is wrong with them.
-use Rattle.std.proofs.Common.{ℕ, ◌+◌, ◌≤◌, Bool, true, false, List, [], ◌∷◌, ◌++◌, length, map, Option, Some, None, Result}
-use Rattle.std.proofs.Common.{Ok, Err, arith}
-use Rattle.std.specs.Prelude.{◌&&◌, is_none, not, option_and_then, if◌then◌else◌}
-use Rattle.std.specs.List.{AllByRecursion, find}
-use Rattle.std.specs.Option.{option_map}
+use Rattle.std.proofs.Common.{ℕ, ◌+◌, ◌≤◌, Bool, true, false, List, [], ◌∷◌, ◌++◌, length, map, Option, Some, None}
+use Rattle.std.{proofs.Common.{Result, Ok, Err, arith}, specs.Prelude.{◌&&◌, is_none, not, option_and_then}}
+use Rattle.std.specs.{Prelude.if◌then◌else◌, List.{AllByRecursion, find}, Option.option_map}
 use Rattle.item_terms.specs.Words.{ends_or_blank, is_blank}
-use Rattle.dir_values.specs.Arguments.{Argument, arguments_at, onto}
-use Rattle.dir_values.specs.Digests.{digest2}
-use Rattle.dir_values.specs.FlagSets.{is_among, is_name, wrong_flag}
-use Rattle.dir_values.specs.Numbers.{number_of, wrong_number}
-use Rattle.dir_values.specs.declared.digest.Digest2.{Digest2}
-use Rattle.list_values.specs.Params.{its_name, wrong_param}
-use Rattle.list_values.specs.Protocols.{is_protocol, wrong_protocol}
+use Rattle.dir_values.specs.{Arguments.{Argument, arguments_at, onto}, Digests.digest2, FlagSets.{is_among, is_name}}
+use Rattle.dir_values.specs.{FlagSets.wrong_flag, Numbers.{number_of, wrong_number}, declared.digest.Digest2.Digest2}
+use Rattle.list_values.specs.{Params.{its_name, wrong_param}, Protocols.{is_protocol, wrong_protocol}}
 use Rattle.list_values.specs.VersionLists.{are_versions, wrong_version_list}
 use Rattle.frame_values.specs.Arguments.{field, front, next, others}
-use Rattle.relay_entries.specs.Fields.{with_argument}
-use Rattle.relay_entries.specs.Lines.{after_sha256, named_digest, names_sha256, some_digest, with_arguments}
-use Rattle.relay_entries.specs.declared.said.Bandwidths.{Bandwidths}
+use Rattle.relay_entries.specs.{Fields.with_argument, Lines.{after_sha256, named_digest, names_sha256, some_digest}}
+use Rattle.relay_entries.specs.{Lines.with_arguments, declared.said.Bandwidths.Bandwidths}
 
 -- what is wrong, if anything is, stands within so many bytes
 abbrev pub PlaceIn : {A : Type 0} → ℕ → Result A ℕ → Type 0

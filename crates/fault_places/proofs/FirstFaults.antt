@@ -1,38 +1,24 @@
 -- The first fault of a document stands within its bytes, whatever its tables.
-use Rattle.std.proofs.Common.{◌≡◌, ℕ, ◌+◌, ◌-◌, ◌≤◌, Bool, true, false, List, [], ◌∷◌, length, Option, Some, None, Result}
-use Rattle.std.proofs.Common.{Ok, Err, refl, sym, subst, arith}
-use Rattle.std.specs.Prelude.{nat_lt, not, ◌&&◌, IfSome, if◌then◌else◌}
-use Rattle.std.proofs.lemmas.Bool.{ltb-true}
-use Rattle.item_terms.specs.Items.{Item, items_of}
-use Rattle.item_terms.specs.declared.fault.DocFault.{DocFault}
-use Rattle.dirdoc_grammar.specs.InPlace.{EachInPlace, InPlace}
-use Rattle.dirdoc_grammar.proofs.Places.{stand_in_place}
+use Rattle.std.proofs.Common.{◌≡◌, ℕ, ◌+◌, ◌-◌, ◌≤◌, Bool, true, false, List, [], ◌∷◌, length, Option, Some, None}
+use Rattle.std.{proofs.{Common.{Result, Ok, Err, refl, sym, subst, arith}, lemmas.Bool.ltb-true}, specs.Prelude.nat_lt}
+use Rattle.std.specs.Prelude.{not, ◌&&◌, IfSome, if◌then◌else◌}
+use Rattle.item_terms.specs.{Items.{Item, items_of}, declared.fault.DocFault.DocFault}
+use Rattle.dirdoc_grammar.{specs.InPlace.{EachInPlace, InPlace}, proofs.Places.stand_in_place}
 use Rattle.frame_terms.specs.Decisions.{beginning_reason, beyond, beyond_inner, beyond_inside, first_item, first_place}
-use Rattle.frame_terms.specs.Decisions.{made_after, made_by, made_first, made_later, section_inside, unless_fault, unless_refused}
-use Rattle.frame_terms.specs.Documents.{Document, after_made, after_noted, at_end, closed_at, go_on, group}
-use Rattle.frame_terms.specs.Documents.{missing_at_end, note_of_made, onto, read_items, start}
-use Rattle.frame_terms.specs.Keywords.{word_of}
-use Rattle.frame_terms.specs.Order.{first_of, following_sections, inner, is_keyword, is_strange, opened_by, passed_over}
-use Rattle.frame_terms.specs.Refusals.{refusal_at}
-use Rattle.frame_terms.specs.Rows.{is_many, limit_number}
+use Rattle.frame_terms.specs.Decisions.{made_after, made_by, made_first, made_later, section_inside, unless_fault}
+use Rattle.frame_terms.specs.{Decisions.unless_refused, Documents.{Document, after_made, after_noted, at_end}}
+use Rattle.frame_terms.specs.Documents.{closed_at, go_on, group, missing_at_end, note_of_made, onto, read_items, start}
+use Rattle.frame_terms.specs.{Keywords.word_of, Order.{first_of, following_sections, inner, is_keyword, is_strange}}
+use Rattle.frame_terms.specs.{Order.{opened_by, passed_over}, Refusals.refusal_at, Rows.{is_many, limit_number}}
 use Rattle.frame_terms.specs.Sections.{accept, lacking_keyword, lacking_but, row_of, stands, taken_as, taken_of}
 use Rattle.frame_terms.specs.Standing.{as_made, begins, begins_again, by_keyword, by_row, elsewhere, ends, enters}
-use Rattle.frame_terms.specs.Standing.{goes_on, in_section, unless}
-use Rattle.frame_terms.specs.Tables.{Tables}
-use Rattle.frame_terms.specs.declared.document.Group.{Group}
-use Rattle.frame_terms.specs.declared.document.Made.{Made}
-use Rattle.frame_terms.specs.declared.document.Made.TheVariants.{Passes, Pushes, Opens, Enters, Leaves, Ends, Stops}
-use Rattle.frame_terms.specs.declared.document.Open.{Open}
-use Rattle.frame_terms.specs.declared.document.Taken.{Taken}
-use Rattle.frame_terms.specs.declared.fault.FrameFault.{FrameFault}
-use Rattle.frame_terms.specs.declared.fault.FrameReason.{FrameReason}
-use Rattle.frame_terms.specs.declared.fault.FrameReason.TheVariants.{Order, TooMany, Twice}
-use Rattle.frame_terms.specs.declared.fault.ReadRefusal.{ReadRefusal}
-use Rattle.frame_terms.specs.declared.fault.ReadRefusal.TheVariants.{Frame, Memory}
-use Rattle.frame_terms.specs.declared.keyword.Keyword.{Keyword}
-use Rattle.frame_terms.specs.declared.row.Limit.{Limit}
-use Rattle.frame_terms.specs.declared.row.Row.{Row}
-use Rattle.frame_terms.specs.declared.section.Again.{Again}
+use Rattle.frame_terms.specs.{Standing.{goes_on, in_section, unless}, Tables.Tables, declared.document.Group.Group}
+use Rattle.frame_terms.specs.declared.document.Made.{Made, TheVariants.{Passes, Pushes, Opens, Enters, Leaves, Ends}}
+use Rattle.frame_terms.specs.declared.document.{Made.TheVariants.Stops, Open.Open, Taken.Taken}
+use Rattle.frame_terms.specs.declared.fault.{FrameFault.FrameFault, FrameReason.{FrameReason, TheVariants.Order}}
+use Rattle.frame_terms.specs.declared.fault.{FrameReason.TheVariants.{TooMany, Twice}, ReadRefusal.ReadRefusal}
+use Rattle.frame_terms.specs.declared.{fault.ReadRefusal.TheVariants.{Frame, Memory}, keyword.Keyword.Keyword}
+use Rattle.frame_terms.specs.declared.{row.{Limit.Limit, Row.Row}, section.Again.Again}
 use Rattle.frame_terms.specs.declared.section.Again.TheVariants as again
 use Rattle.fault_places.specs.Within.{FaultIn, FaultsStandIn, FirstFaultsStandWithin}
 use Rattle.fault_places.proofs.LinePlaces.{first_fault_within}

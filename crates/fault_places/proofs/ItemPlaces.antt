@@ -1,27 +1,18 @@
 -- The places of what is wrong with an item, by what it is read as.
-use Rattle.std.proofs.Common.{ℕ, ◌+◌, ◌≤◌, Bool, true, false, List, length, Option, Some, None, Result, Ok, Err}
-use Rattle.std.proofs.Common.{ap, arith, drop, length-drop, length-take}
-use Rattle.std.specs.Prelude.{◌*◌, codes, is_some, if◌then◌else◌}
-use Rattle.std.specs.Str.{bytes_eq}
+use Rattle.std.proofs.Common.{ℕ, ◌+◌, ◌≤◌, Bool, true, false, List, length, Option, Some, None, Result, Ok, Err, ap}
+use Rattle.std.{proofs.Common.{arith, drop, length-drop, length-take}, specs.Prelude.{◌*◌, codes, is_some}}
+use Rattle.std.specs.{Prelude.if◌then◌else◌, Str.bytes_eq}
 use Rattle.item_terms.specs.Items.{Item, Object}
 use Rattle.dirdoc_grammar.specs.InPlace.{InPlace}
 use Rattle.dir_bytes.specs.Fields.{address, date, time_of_day}
-use Rattle.dir_values.specs.Arguments.{Argument}
-use Rattle.dir_values.specs.Digests.{fingerprint, key_digest}
-use Rattle.dir_values.specs.Names.{algorithm, is_nickname}
-use Rattle.dir_values.specs.Numbers.{number_of, port_of}
-use Rattle.dir_values.specs.declared.algorithm.Algorithm.{Algorithm}
-use Rattle.dir_values.specs.declared.digest.Digest1.{Digest1}
-use Rattle.dir_values.specs.declared.digest.Fingerprint.{Fingerprint}
-use Rattle.frame_values.specs.Arguments.{arguments_of, field, front, next, others}
-use Rattle.frame_values.specs.Fields.{is_there, span_if}
+use Rattle.dir_values.specs.{Arguments.Argument, Digests.{fingerprint, key_digest}, Names.{algorithm, is_nickname}}
+use Rattle.dir_values.specs.{Numbers.{number_of, port_of}, declared.algorithm.Algorithm.Algorithm}
+use Rattle.dir_values.specs.declared.digest.{Digest1.Digest1, Fingerprint.Fingerprint}
+use Rattle.frame_values.specs.{Arguments.{arguments_of, field, front, next, others}, Fields.{is_there, span_if}}
 use Rattle.frame_values.specs.Lines.{argument_of, delays_of, fingerprint_of, literal, rest_unless, source_of, time_of}
 use Rattle.frame_values.specs.Signatures.{after_algorithm, algorithm_if, has_words, is_space, object_if, signature_of}
-use Rattle.frame_values.specs.Signatures.{signed_by}
-use Rattle.frame_values.specs.declared.found.Span.{Span}
-use Rattle.frame_values.specs.declared.found.VoteSignature.{VoteSignature}
-use Rattle.value_groups.specs.Lines.{random_of}
-use Rattle.value_groups.specs.Values.{padded_digest}
+use Rattle.frame_values.specs.{Signatures.signed_by, declared.found.{Span.Span, VoteSignature.VoteSignature}}
+use Rattle.value_groups.specs.{Lines.random_of, Values.padded_digest}
 use Rattle.fault_places.proofs.ArgumentPlaces.{Begins, EachBegins, PlaceIfIn, PlaceIn, each_begins, front_begins}
 use Rattle.fault_places.proofs.ArgumentPlaces.{others_begin}
 

@@ -1,22 +1,18 @@
 -- The first fault of a text's lines and objects stands within the text.
 use Rattle.std.proofs.Common.{◌≡◌, ℕ, ◌+◌, ◌-◌, ◌≤◌, Bool, true, false, eqb, List, [], ◌∷◌, length, Option, Some, None}
-use Rattle.std.proofs.Common.{Result, Ok, Err, refl, arith}
-use Rattle.std.specs.Prelude.{min, not, nat_lt, nat_le, ◌&&◌, IfSome, if◌then◌else◌}
-use Rattle.std.specs.List.{prefix_len}
-use Rattle.std.proofs.lemmas.Bool.{leb-false, leb-true}
-use Rattle.std.proofs.lemmas.List.Sums.{prefix_len-le-length}
-use Rattle.item_terms.specs.Base64Text.{is_body}
-use Rattle.item_terms.specs.declared.fault.DocFault.{DocFault}
-use Rattle.item_terms.specs.declared.fault.DocReason.TheVariants.{Keyword, Unterminated, LineTooLong, DocumentTooLong}
-use Rattle.item_terms.specs.declared.fault.DocReason.TheVariants.{ObjectTooLong, ObjectBase64, ObjectEnd}
-use Rattle.item_terms.specs.Faults.{at, line_fault, max_line, max_object, nul_fault, object_line_fault, or_else}
-use Rattle.item_terms.specs.Faults.{too_long, unterminated_fault}
-use Rattle.item_terms.specs.Items.{Contents, also, at_end, contents_of, items_from, proceed}
-use Rattle.item_terms.specs.Lines.{Line, lines, onto, size}
-use Rattle.item_terms.specs.Steps.{Item, Open, Step, begun_object, first_object_line, item_unless, keyword_item}
-use Rattle.item_terms.specs.Steps.{keyword_line, line_item, nothing, object_lines, object_step, open_item}
-use Rattle.item_terms.specs.Steps.{open_unless, read_line, starts_dash, step, step_unless, with_line, with_object}
-use Rattle.item_terms.specs.Words.{begin_words, is_blank_line, is_end_line, is_keyword_line, nul_in}
+use Rattle.std.proofs.{Common.{Result, Ok, Err, refl, arith}, lemmas.Bool.{leb-false, leb-true}}
+use Rattle.std.{proofs.lemmas.List.Sums.prefix_len-le-length, specs.Prelude.{min, not, nat_lt, nat_le, ◌&&◌, IfSome}}
+use Rattle.std.specs.{Prelude.if◌then◌else◌, List.prefix_len}
+use Rattle.item_terms.specs.{Base64Text.is_body, declared.fault.{DocFault.DocFault, DocReason.TheVariants.Keyword}}
+use Rattle.item_terms.specs.declared.fault.DocReason.TheVariants.{Unterminated, LineTooLong, DocumentTooLong}
+use Rattle.item_terms.specs.{declared.fault.DocReason.TheVariants.{ObjectTooLong, ObjectBase64, ObjectEnd}, Faults.at}
+use Rattle.item_terms.specs.Faults.{line_fault, max_line, max_object, nul_fault, object_line_fault, or_else, too_long}
+use Rattle.item_terms.specs.{Faults.unterminated_fault, Items.{Contents, also, at_end, contents_of, items_from}}
+use Rattle.item_terms.specs.{Items.proceed, Lines.{Line, lines, onto, size}, Steps.{Item, Open, Step, begun_object}}
+use Rattle.item_terms.specs.Steps.{first_object_line, item_unless, keyword_item, keyword_line, line_item, nothing}
+use Rattle.item_terms.specs.Steps.{object_lines, object_step, open_item, open_unless, read_line, starts_dash, step}
+use Rattle.item_terms.specs.{Steps.{step_unless, with_line, with_object}, Words.{begin_words, is_blank_line}}
+use Rattle.item_terms.specs.Words.{is_end_line, is_keyword_line, nul_in}
 
 -- ---- the bytes of lines
 

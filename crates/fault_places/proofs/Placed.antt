@@ -1,11 +1,8 @@
 -- The places of what is wrong with an item, as faults, and with its fields.
 use Rattle.std.proofs.Common.{ℕ, Option, Result, Ok, Err}
 use Rattle.frame_terms.specs.declared.fault.FrameFault.{FrameFault}
-use Rattle.frame_values.specs.Arguments.{Argument, field, next}
-use Rattle.frame_values.specs.Faults.{at_place, unless_fault}
-use Rattle.fault_places.specs.Within.{FaultIn}
-use Rattle.fault_places.proofs.ArgumentPlaces.{Begins, PlaceIn}
-use Rattle.fault_places.proofs.ItemPlaces.{one_in, then_in}
+use Rattle.frame_values.specs.{Arguments.{Argument, field, next}, Faults.{at_place, unless_fault}}
+use Rattle.fault_places.{specs.Within.FaultIn, proofs.{ArgumentPlaces.{Begins, PlaceIn}, ItemPlaces.{one_in, then_in}}}
 
 module _ (n : ℕ) where
   pub placed_in : {V : Type 0} (read : Result V ℕ) → PlaceIn n read → FaultIn n (at_place read)

@@ -2,12 +2,8 @@
 use Rattle.std.specs.Prelude.{◌≡◌, ℕ, ◌≤◌, List, length, Result, Ok, Err}
 use Rattle.item_terms.specs.Items.{Item, items_of}
 use Rattle.dirdoc_grammar.specs.InPlace.{InPlace}
-use Rattle.frame_terms.specs.declared.fault.FrameFault.{FrameFault}
-use Rattle.frame_terms.specs.declared.fault.ReadRefusal.TheVariants.{Frame}
-use Rattle.frame_terms.specs.declared.keyword.Keyword.{Keyword}
-use Rattle.frame_terms.specs.Documents.{document_of}
-use Rattle.frame_terms.specs.Sections.{taken_of}
-use Rattle.frame_terms.specs.Tables.{Tables}
+use Rattle.frame_terms.specs.declared.fault.{FrameFault.FrameFault, ReadRefusal.TheVariants.Frame}
+use Rattle.frame_terms.specs.{declared.keyword.Keyword.Keyword, Documents.document_of, Sections.taken_of, Tables.Tables}
 
 -- the fault, if there is one, stands within so many bytes
 abbrev pub FaultIn : {A : Type 0} → ℕ → Result A FrameFault → Type 0

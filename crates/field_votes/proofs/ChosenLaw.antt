@@ -1,12 +1,8 @@
 -- The chosen value is one of the values, and none outdoes it.
-use Rattle.std.proofs.Common.{◌≡◌, ℕ, zero, suc, ◌<◌, ◌≤◌, Bool, true, false, not, ◌&&◌, ◌||◌, List, [], ◌∷◌, Some, length, get_or, refl, sym, ap, ◌∙◌, arith}
-use Rattle.std.specs.Prelude.{Contains, nat_lt, nat_eq}
-use Rattle.std.specs.List.{find, list_all}
-use Rattle.std.specs.declared.cmp.Ordering.{Ordering}
-use Rattle.std.specs.Ordering.{is_gt}
-use Rattle.std.proofs.lemmas.Bool.{false≢true}
-use Rattle.std.proofs.lemmas.Bool.Decides.{nat_tests}
-use Rattle.std.proofs.lemmas.Option.{same_Some}
+use Rattle.std.proofs.Common.{◌≡◌, ℕ, zero, suc, ◌<◌, ◌≤◌, Bool, true, false, not, ◌&&◌, ◌||◌, List, [], ◌∷◌, Some}
+use Rattle.std.proofs.{Common.{length, get_or, refl, sym, ap, ◌∙◌, arith}, lemmas.Bool.{false≢true, Decides.nat_tests}}
+use Rattle.std.{proofs.lemmas.Option.same_Some, specs.{Prelude.{Contains, nat_lt, nat_eq}, List.{find, list_all}}}
+use Rattle.std.specs.{declared.cmp.Ordering.Ordering, Ordering.is_gt}
 use Rattle.count_terms.specs.Choosing.{times, outdoes, leads}
 use Rattle.field_votes.specs.Plain.{IsChosen, ChosenIsChosen}
 

@@ -1,9 +1,7 @@
 -- Flags that pass a test, put into a set one after the other.
 use Rattle.std.proofs.Common.{◌≡◌, ℕ, suc, ◌+◌, Bool, true, false, List, [], ◌∷◌, drop, Some, sym, ap, ◌∙◌, arith}
-use Rattle.std.specs.Prelude.{slice_get, filter, if◌then◌else◌}
-use Rattle.std.specs.List.{fold}
-use Rattle.std.proofs.Math.Seq.{drop-cons}
-use Rattle.std.proofs.lemmas.Option.{get_or_from_slice_get, slice_get_within}
+use Rattle.std.proofs.{Math.Seq.drop-cons, lemmas.Option.{get_or_from_slice_get, slice_get_within}}
+use Rattle.std.specs.{Prelude.{slice_get, filter, if◌then◌else◌}, List.fold}
 use Rattle.dir_values.specs.FlagSets.{with_flag}
 use Rattle.field_votes.specs.Private.{with_flag_if}
 

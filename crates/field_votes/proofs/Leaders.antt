@@ -1,17 +1,11 @@
 -- The value that leads of all is the chosen one.
-use Rattle.std.proofs.Common.{◌≡◌, ℕ, ◌<◌, ◌⊎◌, Bool, true, false, not, ◌&&◌, ltb, eqb, List, [], ◌∷◌, Option, Some, None, refl, sym, ap, ◌∙◌, inl, inr, ⊎_elim, arith}
-use Rattle.std.specs.Prelude.{length, take, ◌+◌, ◌++◌, get_or, slice_get, option_and_then, if◌then◌else◌}
-use Rattle.std.proofs.lemmas.Option.{same_Some, slice_get_read, slice_get_cases}
-use Rattle.std.proofs.lemmas.List.{take_more}
-use Rattle.std.proofs.lemmas.List.Sums.{fold-append}
-use Rattle.std.specs.List.{find, fold, list_all}
-use Rattle.std.specs.declared.cmp.Ordering.{Ordering}
-use Rattle.std.specs.declared.cmp.Ordering.TheVariants.{Less, Equal, Greater}
-use Rattle.std.specs.Cmp.{IsTotalOrder}
-use Rattle.std.specs.Ordering.{is_gt, ordering_reverse}
-use Rattle.std.proofs.lemmas.Cmp.{tied_itself}
-use Rattle.std.proofs.lemmas.Bool.{false≢true}
-use Rattle.std.proofs.lemmas.Bool.Decides.{nat_tests}
+use Rattle.std.proofs.Common.{◌≡◌, ℕ, ◌<◌, ◌⊎◌, Bool, true, false, not, ◌&&◌, ltb, eqb, List, [], ◌∷◌, Option, Some}
+use Rattle.std.proofs.{Common.{None, refl, sym, ap, ◌∙◌, inl, inr, ⊎_elim, arith}, lemmas.Option.same_Some}
+use Rattle.std.proofs.lemmas.{Option.{slice_get_read, slice_get_cases}, List.{take_more, Sums.fold-append}}
+use Rattle.std.{proofs.lemmas.{Cmp.tied_itself, Bool.{false≢true, Decides.nat_tests}}, specs.Prelude.{length, take}}
+use Rattle.std.specs.{Prelude.{◌+◌, ◌++◌, get_or, slice_get, option_and_then, if◌then◌else◌}, List.{find, fold}}
+use Rattle.std.specs.{List.list_all, declared.cmp.Ordering.{Ordering, TheVariants.{Less, Equal, Greater}}}
+use Rattle.std.specs.{Cmp.IsTotalOrder, Ordering.{is_gt, ordering_reverse}}
 use Rattle.count_terms.specs.Choosing.{times, outdoes, chosen}
 use Rattle.field_votes.specs.Leading.{after, leader}
 

@@ -1,17 +1,14 @@
 -- The bits of the numbers that pass a test.
-use Rattle.std.proofs.Common.{◌≡◌, ℕ, zero, suc, ◌*◌, ◌%◌, ◌^◌, ◌<◌, ◌≤◌, Bool, true, false, cond, List, [], ◌∷◌, length, map, refl, sym, ap, ◌∙◌, arith, subst, ⊎_elim, ◌⊎◌}
-use Rattle.std.specs.Prelude.{◌==◌, ◌&&◌, nat_lt, not, bit_or, filter, if◌then◌else◌}
-use Rattle.std.specs.Int.{bit_at, w64}
-use Rattle.std.proofs.lemmas.Bool.{lt-ltb, le-ltb, eqb-true, eqb-false, cases_order}
-use Rattle.std.proofs.lemmas.Nat.{or_lt}
-use Rattle.std.proofs.lemmas.Nat.Bits.{bit_at_set_same, bit_at_set_other, bit_at-lt, bit_at-zero, same_from_bits_below}
-use Rattle.list_values.specs.declared.named.Named.{Named}
-use Rattle.list_values.specs.Maps.{named_value}
-use Rattle.list_values.specs.Masks.{is_set, numbers_of, all_listed}
-use Rattle.list_values.specs.NumberSets.{numbers_that, has_number}
-use Rattle.list_values.proofs.NumberLists.{same_numbers, has_those, no_numbers}
-use Rattle.field_votes.specs.Lists.{is_listed_number, listed_numbers, is_listed_protocol}
-use Rattle.field_votes.specs.Private.{mask_below, mask_that, listed_mask, masks_among}
+use Rattle.std.proofs.Common.{◌≡◌, ℕ, zero, suc, ◌*◌, ◌%◌, ◌^◌, ◌<◌, ◌≤◌, Bool, true, false, cond, List, [], ◌∷◌}
+use Rattle.std.proofs.{Common.{length, map, refl, sym, ap, ◌∙◌, arith, subst, ⊎_elim, ◌⊎◌}, lemmas.Bool.lt-ltb}
+use Rattle.std.proofs.lemmas.{Bool.{le-ltb, eqb-true, eqb-false, cases_order}, Nat.{or_lt, Bits.bit_at_set_same}}
+use Rattle.std.proofs.lemmas.Nat.Bits.{bit_at_set_other, bit_at-lt, bit_at-zero, same_from_bits_below}
+use Rattle.std.specs.{Prelude.{◌==◌, ◌&&◌, nat_lt, not, bit_or, filter, if◌then◌else◌}, Int.{bit_at, w64}}
+use Rattle.list_values.specs.{declared.named.Named.Named, Maps.named_value, Masks.{is_set, numbers_of, all_listed}}
+use Rattle.list_values.{specs.NumberSets.{numbers_that, has_number}, proofs.NumberLists.{same_numbers, has_those}}
+use Rattle.list_values.proofs.NumberLists.{no_numbers}
+use Rattle.field_votes.specs.{Lists.{is_listed_number, listed_numbers, is_listed_protocol}, Private.mask_below}
+use Rattle.field_votes.specs.Private.{mask_that, listed_mask, masks_among}
 
 abbrev bit : ℕ → ℕ
 bit number = 1 * 2 ^ number % 2 ^ 64

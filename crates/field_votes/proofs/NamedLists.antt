@@ -1,12 +1,10 @@
 -- Values of ascending names ascend.
-use Rattle.std.proofs.Common.{◌≡◌, ℕ, Bool, true, false, cond, List, [], ◌∷◌, map}
-use Rattle.std.specs.Prelude.{All, filter}
-use Rattle.std.proofs.lemmas.List.Elements.{All-nil, All-cons, All-head, All-tail}
-use Rattle.dir_values.specs.Digests.{bytes_below}
+use Rattle.std.proofs.{Common.{◌≡◌, ℕ, Bool, true, false, cond, List, [], ◌∷◌, map}, lemmas.List.Elements.All-nil}
+use Rattle.std.{proofs.lemmas.List.Elements.{All-cons, All-head, All-tail}, specs.Prelude.{All, filter}}
+use Rattle.dir_values.{specs.Digests.bytes_below, proofs.Orders.{AllPairs-cons, AllPairs-head, AllPairs-tail}}
+use Rattle.dir_values.proofs.Orders.{AllPairs-nil}
 use Rattle.dir_values.specs.FlagSets as flag_sets
-use Rattle.dir_values.proofs.Orders.{AllPairs-cons, AllPairs-head, AllPairs-tail, AllPairs-nil}
-use Rattle.list_values.specs.declared.named.Named.{Named}
-use Rattle.list_values.specs.Maps.{named_value, Ascend}
+use Rattle.list_values.specs.{declared.named.Named.Named, Maps.{named_value, Ascend}}
 
 abbrev Below : List ℕ → List ℕ → Type 0
 Below a b = bytes_below a b ≡ true

@@ -1,11 +1,8 @@
 -- The flags that a consensus has of its own, behind those that votes list.
 use Rattle.std.proofs.Common.{◌≡◌, ℕ, Bool, true, false, cond, List, [], ◌∷◌, ◌++◌, sym, ap, ◌∙◌}
-use Rattle.std.specs.Prelude.{codes}
-use Rattle.std.proofs.lemmas.List.Sums.{fold-append}
-use Rattle.dir_values.specs.FlagSets.{has_flag, with_flag, as_set}
-use Rattle.dir_values.proofs.Flags.{has_flag-as_set}
-use Rattle.field_votes.specs.Flags.{with_own_flags}
-use Rattle.field_votes.specs.Private.{with_own}
+use Rattle.std.{proofs.lemmas.List.Sums.fold-append, specs.Prelude.codes}
+use Rattle.dir_values.{specs.FlagSets.{has_flag, with_flag, as_set}, proofs.Flags.has_flag-as_set}
+use Rattle.field_votes.specs.{Flags.with_own_flags, Private.with_own}
 
 own_by : (middle_only : Bool) (flags : List (List ℕ))
     → cond middle_only (with_flag (with_flag (as_set flags) (codes "NoEdConsensus")) (codes "BadExit")) (with_flag (as_set flags) (codes "NoEdConsensus"))

@@ -1,20 +1,12 @@
 -- The keys of a tree of borrowed versions, as a set of versions.
-use Rattle.std.proofs.Common.{◌≡◌, ℕ, Bool, true, false, List, [], ◌∷◌, length, map, refl}
-use Rattle.std.proofs.Common.{sym, ap, ap₂, ◌∙◌, suc, ◌+◌}
-use Rattle.std.specs.Prelude.{◌||◌, filter, if◌then◌else◌}
-use Rattle.std.specs.BTreeMap.{is_at}
-use Rattle.std.specs.BTreeSet.{insert_key}
-use Rattle.std.specs.declared.cmp.Ordering.{Ordering}
-use Rattle.std.specs.declared.cmp.Ordering.TheVariants.{Less, Equal, Greater}
-use Rattle.std.specs.List.{list_any, fold}
-use Rattle.std.specs.Ordering.{match_ordering}
-use Rattle.std.specs.Str.{bytes_eq}
-use Rattle.std.proofs.lemmas.List.Sums.{sum_by-cons}
+use Rattle.std.proofs.Common.{◌≡◌, ℕ, Bool, true, false, List, [], ◌∷◌, length, map, refl, sym, ap, ap₂, ◌∙◌, suc, ◌+◌}
+use Rattle.std.{proofs.lemmas.List.Sums.sum_by-cons, specs.{Prelude.{◌||◌, filter, if◌then◌else◌}, BTreeMap.is_at}}
+use Rattle.std.specs.{BTreeSet.insert_key, declared.cmp.Ordering.{Ordering, TheVariants.{Less, Equal, Greater}}}
+use Rattle.std.specs.{List.{list_any, fold}, Ordering.match_ordering, Str.bytes_eq}
 use Rattle.count_terms.specs.Counts.{over}
 use Rattle.dir_values.specs.FlagSets.{has_flag}
-use Rattle.field_votes.specs.declared.version_text.VersionText.{VersionText}
-use Rattle.field_votes.specs.VersionSets.{texts_in}
-use Rattle.field_votes.specs.Versions.{text_order, with_version, in_order, listing_count, is_listed_by_most}
+use Rattle.field_votes.specs.{declared.version_text.VersionText.VersionText, VersionSets.texts_in, Versions.text_order}
+use Rattle.field_votes.specs.Versions.{with_version, in_order, listing_count, is_listed_by_most}
 use Rattle.field_votes.proofs.VersionTexts.{one_text, ties_as_one}
 
 -- the order of borrowed texts

@@ -1,17 +1,10 @@
 -- No two texts of versions are alike in their order.
-use Rattle.std.proofs.Common.{◌≡◌, ℕ, Bool, true, false, List, [], ◌∷◌, refl, sym, ap, ◌∙◌}
-use Rattle.std.specs.Prelude.{◌||◌}
-use Rattle.std.specs.Cmp.Lexicographic.{slice_cmp, bytes_decides}
-use Rattle.std.specs.declared.cmp.Ordering.{Ordering}
-use Rattle.std.specs.declared.cmp.Ordering.TheVariants.{Less, Equal, Greater}
-use Rattle.std.specs.Option.{option_cmp}
-use Rattle.std.specs.Ordering.{nat_cmp, is_eq, ordering_then}
-use Rattle.std.specs.Str.{bytes_eq}
-use Rattle.std.proofs.lemmas.Cmp.{tied_itself}
-use Rattle.dir_values.specs.Versions.{version_of, version_order}
-use Rattle.dir_values.proofs.VersionOrders.{texts_tie}
-use Rattle.field_votes.specs.VersionKeys.{texts_total}
-use Rattle.field_votes.specs.Versions.{text_order}
+use Rattle.std.proofs.{Common.{◌≡◌, ℕ, Bool, true, false, List, [], ◌∷◌, refl, sym, ap, ◌∙◌}, lemmas.Cmp.tied_itself}
+use Rattle.std.specs.{Prelude.◌||◌, Cmp.Lexicographic.{slice_cmp, bytes_decides}, declared.cmp.Ordering.Ordering}
+use Rattle.std.specs.{declared.cmp.Ordering.TheVariants.{Less, Equal, Greater}, Option.option_cmp, Ordering.nat_cmp}
+use Rattle.std.specs.{Ordering.{is_eq, ordering_then}, Str.bytes_eq}
+use Rattle.dir_values.{specs.Versions.{version_of, version_order}, proofs.VersionOrders.texts_tie}
+use Rattle.field_votes.specs.{VersionKeys.texts_total, Versions.text_order}
 
 last_tie : (o p : Ordering) → ordering_then o p ≡ Equal → p ≡ Equal
 last_tie Less p tie = cc

@@ -1,23 +1,16 @@
 -- The versions that most lists have, in plain words: those and no others, and they ascend.
-use Rattle.std.proofs.Common.{◌≡◌, ℕ, ◌+◌, Bool, true, false, List, [], ◌∷◌, ◌++◌, length, refl, sym, ap, ap₂, ◌∙◌, arith}
-use Rattle.std.specs.Prelude.{All, AllPairs, ◌*◌, ◌&&◌, ◌||◌, filter, if◌then◌else◌}
-use Rattle.std.specs.declared.cmp.Ordering.{Ordering}
-use Rattle.std.specs.declared.cmp.Ordering.TheVariants.{Less, Equal, Greater}
-use Rattle.std.specs.List.{flat_map, fold, list_any}
-use Rattle.std.specs.Ordering.{match_ordering, ordering_reverse}
-use Rattle.std.specs.Str.{bytes_eq}
-use Rattle.std.proofs.lemmas.Bool.{false≢true, le-ltb}
-use Rattle.std.proofs.lemmas.List.Elements.{All-cons, All-head, All-nil, All-tail, All-weaker}
-use Rattle.std.proofs.lemmas.List.Folds.{list_any-append}
-use Rattle.std.proofs.lemmas.List.Sums.{sum_by-cons}
+use Rattle.std.proofs.Common.{◌≡◌, ℕ, ◌+◌, Bool, true, false, List, [], ◌∷◌, ◌++◌, length, refl, sym, ap, ap₂, ◌∙◌}
+use Rattle.std.proofs.{Common.arith, lemmas.{Bool.{false≢true, le-ltb}, List.Elements.{All-cons, All-head, All-nil}}}
+use Rattle.std.proofs.lemmas.List.{Elements.{All-tail, All-weaker}, Folds.list_any-append, Sums.sum_by-cons}
+use Rattle.std.specs.{Prelude.{All, AllPairs, ◌*◌, ◌&&◌, ◌||◌, filter, if◌then◌else◌}, declared.cmp.Ordering.Ordering}
+use Rattle.std.specs.{declared.cmp.Ordering.TheVariants.{Less, Equal, Greater}, List.{flat_map, fold, list_any}}
+use Rattle.std.specs.{Ordering.{match_ordering, ordering_reverse}, Str.bytes_eq}
 use Rattle.count_terms.specs.Counts.{over}
-use Rattle.dir_values.specs.FlagSets.{has_flag}
-use Rattle.dir_values.proofs.Orders.{AllPairs-cons, AllPairs-head, AllPairs-nil, AllPairs-tail, same_text}
-use Rattle.field_votes.specs.Plain.{VotedVersionsAreThoseOfMost}
-use Rattle.field_votes.specs.VersionKeys.{texts_total}
-use Rattle.field_votes.specs.Versions.{all_versions, in_order, is_listed_by_most, listing_count, lists_there}
-use Rattle.field_votes.specs.Versions.{text_order, with_version}
-use Rattle.field_votes.proofs.VersionSets.{has-in_order}
+use Rattle.dir_values.{specs.FlagSets.has_flag, proofs.Orders.{AllPairs-cons, AllPairs-head, AllPairs-nil}}
+use Rattle.dir_values.proofs.Orders.{AllPairs-tail, same_text}
+use Rattle.field_votes.specs.{Plain.VotedVersionsAreThoseOfMost, VersionKeys.texts_total, Versions.all_versions}
+use Rattle.field_votes.specs.Versions.{in_order, is_listed_by_most, listing_count, lists_there, text_order}
+use Rattle.field_votes.{specs.Versions.with_version, proofs.VersionSets.has-in_order}
 
 -- ---- those and no others
 

@@ -1,8 +1,6 @@
 -- What lists of flags say together (dir-spec, "Computing a consensus from a set of votes").
-use Rattle.std.specs.Prelude.{ℕ, Bool, false, not, ◌&&◌, ◌||◌, List, [], ◌∷◌, ◌++◌, Option, count_by, filter, codes, if◌then◌else◌}
-use Rattle.std.specs.List.{flat_map, zip}
-use Rattle.std.specs.Option.{option_map_or}
-use Rattle.std.specs.Str.{bytes_eq}
+use Rattle.std.specs.Prelude.{ℕ, Bool, false, not, ◌&&◌, ◌||◌, List, [], ◌∷◌, ◌++◌, Option, count_by, filter, codes}
+use Rattle.std.specs.{Prelude.if◌then◌else◌, List.{flat_map, zip}, Option.option_map_or, Str.bytes_eq}
 use Rattle.dir_values.specs.FlagSets.{as_set, has_flag, with_flag}
 use Rattle.count_terms.specs.Counts.{over}
 

@@ -1,7 +1,5 @@
 -- The value that leads so far.
-use Rattle.std.specs.Prelude.{List, Option, Some, None, if◌then◌else◌}
-use Rattle.std.specs.declared.cmp.Ordering.{Ordering}
-use Rattle.std.specs.List.{fold}
+use Rattle.std.specs.{Prelude.{List, Option, Some, None, if◌then◌else◌}, declared.cmp.Ordering.Ordering, List.fold}
 use Rattle.count_terms.specs.Choosing.{outdoes}
 
 -- the value that leads once one more was seen, of the values of a list

@@ -1,14 +1,10 @@
 -- What lists of params, versions and protocols say together (dir-spec, "Computing a consensus from a set of votes").
 use Rattle.std.specs.Prelude.{ℕ, nat_le, nat_lt, Bool, ◌||◌, List, count_by, filter, length, map, ℤ, pos}
-use Rattle.std.specs.List.{filter_map, flat_map}
-use Rattle.std.specs.Ordering.{int_cmp}
-use Rattle.count_terms.specs.Counts.{over}
-use Rattle.count_terms.specs.Medians.{low_median_by}
+use Rattle.std.specs.{List.{filter_map, flat_map}, Ordering.int_cmp}
+use Rattle.count_terms.specs.{Counts.over, Medians.low_median_by}
 use Rattle.dir_values.specs.FlagSets.{as_set}
-use Rattle.list_values.specs.declared.named.Named.{Named}
-use Rattle.list_values.specs.Maps.{named_value, names_of, value_at}
-use Rattle.list_values.specs.NumberSets.{numbers_that}
-use Rattle.list_values.specs.Protocols.{has_version}
+use Rattle.list_values.specs.{declared.named.Named.Named, Maps.{named_value, names_of, value_at}}
+use Rattle.list_values.specs.{NumberSets.numbers_that, Protocols.has_version}
 
 -- ---- names
 

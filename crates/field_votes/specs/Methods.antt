@@ -1,9 +1,6 @@
 -- The consensus method that lists of methods choose (dir-spec, "Computing a consensus from a set of votes").
-use Rattle.std.specs.Prelude.{ℕ, nat_eq, Bool, List, count_by, length, unwrap_or}
-use Rattle.std.specs.List.{find, list_any}
-use Rattle.count_terms.specs.Counts.{two_thirds}
-use Rattle.count_terms.specs.Methods.{known_methods}
-use Rattle.count_terms.specs.declared.newest.Newest.{Newest}
+use Rattle.std.specs.{Prelude.{ℕ, nat_eq, Bool, List, count_by, length, unwrap_or}, List.{find, list_any}}
+use Rattle.count_terms.specs.{Counts.two_thirds, Methods.known_methods, declared.newest.Newest.Newest}
 
 -- how many lists have a method, each counted once however often it repeats it
 abbrev pub supporting_count : List (List ℕ) → ℕ → ℕ

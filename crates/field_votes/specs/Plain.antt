@@ -1,8 +1,6 @@
 -- The chosen value and the voted versions, in plain words.
 use Rattle.std.specs.Prelude.{◌≡◌, ◌≤◌, ℕ, false, List, AllPairs, Contains, Option, Some}
-use Rattle.std.specs.declared.cmp.Ordering.{Ordering}
-use Rattle.std.specs.declared.cmp.Ordering.TheVariants.{Less}
-use Rattle.std.specs.Ordering.{is_gt}
+use Rattle.std.specs.{declared.cmp.Ordering.{Ordering, TheVariants.Less}, Ordering.is_gt}
 use Rattle.count_terms.specs.Choosing.{times, chosen}
 use Rattle.dir_values.specs.FlagSets.{has_flag}
 use Rattle.field_votes.specs.Versions.{is_listed_by_most, lists_there, text_order, voted_versions}

@@ -1,8 +1,8 @@
 -- What the private functions of this crate say.
-use Rattle.std.specs.Prelude.{ℕ, zero, suc, ◌*◌, ◌%◌, ◌^◌, ◌==◌, Bool, not, bit_or, List, codes, filter, map, ℤ, Option, Some, None, if◌then◌else◌}
+use Rattle.std.specs.Prelude.{ℕ, zero, suc, ◌*◌, ◌%◌, ◌^◌, ◌==◌, Bool, not, bit_or, List, codes, filter, map, ℤ, Option}
+use Rattle.std.specs.Prelude.{Some, None, if◌then◌else◌}
 use Rattle.dir_values.specs.FlagSets.{has_flag, with_flag}
-use Rattle.list_values.specs.declared.named.Named.{Named}
-use Rattle.list_values.specs.Maps.{named_value}
+use Rattle.list_values.specs.{declared.named.Named.Named, Maps.named_value}
 use Rattle.field_votes.specs.Lists.{is_listed_param, median_param, is_listed_number}
 
 -- a set with `NoEdConsensus`, and with `BadExit` where `MiddleOnly` is in it

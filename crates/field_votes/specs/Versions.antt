@@ -1,15 +1,10 @@
 -- The versions that lists of versions agree on (dir-spec, "Computing a consensus from a set of votes", `client-versions`
 -- and `server-versions`).
-use Rattle.std.specs.Prelude.{ℕ, Bool, List, [], Option, count_by, filter, length}
-use Rattle.std.specs.BTreeSet.{insert_key}
-use Rattle.std.specs.Cmp.Lexicographic.{slice_cmp}
-use Rattle.std.specs.declared.cmp.Ordering.{Ordering}
-use Rattle.std.specs.List.{filter_map, flat_map, fold}
-use Rattle.std.specs.Option.{option_cmp}
-use Rattle.std.specs.Ordering.{nat_cmp, ordering_then}
+use Rattle.std.specs.{Prelude.{ℕ, Bool, List, [], Option, count_by, filter, length}, BTreeSet.insert_key}
+use Rattle.std.specs.{Cmp.Lexicographic.slice_cmp, declared.cmp.Ordering.Ordering, List.{filter_map, flat_map, fold}}
+use Rattle.std.specs.{Option.option_cmp, Ordering.{nat_cmp, ordering_then}}
 use Rattle.count_terms.specs.Counts.{over}
-use Rattle.dir_values.specs.FlagSets.{has_flag}
-use Rattle.dir_values.specs.Versions.{version_of, version_order}
+use Rattle.dir_values.specs.{FlagSets.has_flag, Versions.{version_of, version_order}}
 
 -- the order of texts by the versions that they spell, and then by their bytes; one that spells none comes first
 abbrev pub text_order : List ℕ → List ℕ → Ordering

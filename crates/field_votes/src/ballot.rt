@@ -1,8 +1,5 @@
 // Values that votes choose among.
-ghost use Rattle.std.specs.Prelude.{◌≡◌};
-ghost use Rattle.std.specs.declared.cmp.Ordering.{Ordering};
-ghost use Rattle.std.specs.declared.cmp.Ordering.TheVariants.{Equal};
-ghost use Rattle.std.specs.Cmp.{IsTotalOrder};
+ghost use Rattle.std.specs.{Prelude.◌≡◌, declared.cmp.Ordering.{Ordering, TheVariants.Equal}, Cmp.IsTotalOrder};
 
 use std::cmp::Ordering;
 

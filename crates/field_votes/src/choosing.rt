@@ -1,5 +1,6 @@
 // The value that stands most often.
-ghost use Rattle.std.specs.Prelude.{◌≡◌, ◌<◌, ◌≤◌, ◌↔◌, [], Some, IsTrue, IfSome, is_none, option_and_then, length, slice_get};
+ghost use Rattle.std.specs.Prelude.{◌≡◌, ◌<◌, ◌≤◌, ◌↔◌, [], Some, IsTrue, IfSome, is_none, option_and_then, length};
+ghost use Rattle.std.specs.Prelude.{slice_get};
 ghost use Rattle.count_terms.specs.Choosing as choosing;
 ghost use Rattle.field_votes.specs.Leading as leading;
 

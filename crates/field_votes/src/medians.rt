@@ -1,9 +1,7 @@
 // Low medians of numbers in ascending order.
-ghost use Rattle.std.specs.Prelude.{◌≡◌, ◌<◌, ℕ, ℤ, pos, List, length};
-ghost use Rattle.std.specs.List.Sorted.{IsPermutation, IsSorted};
+ghost use Rattle.std.specs.{Prelude.{◌≡◌, ◌<◌, ℕ, ℤ, pos, List, length}, List.Sorted.{IsPermutation, IsSorted}};
 ghost use Rattle.std.specs.Ordering.{nat_cmp, int_cmp};
-ghost use Rattle.count_terms.specs.Counts.{low_median};
-ghost use Rattle.count_terms.specs.Medians.{low_median_by};
+ghost use Rattle.count_terms.specs.{Counts.low_median, Medians.low_median_by};
 
 /// The low median of each list that has these members, which stand here in ascending order: a member with at most half of
 /// the others below it, rounded down, and more than that at or below it. It takes no memory.

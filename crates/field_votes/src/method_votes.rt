@@ -1,6 +1,5 @@
 // The consensus method that most lists have.
-ghost use Rattle.std.specs.Prelude.{◌≡◌, map, nat_eq};
-ghost use Rattle.std.specs.List.{list_any};
+ghost use Rattle.std.specs.{Prelude.{◌≡◌, map, nat_eq}, List.list_any};
 ghost use Rattle.field_votes.specs.Methods as votes;
 
 use count_terms::Newest;

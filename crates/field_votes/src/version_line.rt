@@ -37,8 +37,7 @@ impl<'a> VersionLine<'a> {
 }
 
 impl<'a> Ballot for VersionLine<'a> {
-    ghost use Rattle.dir_values.specs.Versions.{named_order};
-    ghost use Rattle.dir_values.proofs.VersionOrders.{named_total, named_tie};
+    ghost use Rattle.dir_values.{specs.Versions.named_order, proofs.VersionOrders.{named_total, named_tie}};
 
     ghost order = { named_order };
 

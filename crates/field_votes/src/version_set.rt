@@ -1,6 +1,5 @@
 // Sets of versions that stand elsewhere.
-ghost use Rattle.std.specs.Prelude.{◌≡◌, ◌<◌, [], filter, IfOk, OnOk};
-ghost use Rattle.std.specs.List.{fold};
+ghost use Rattle.std.specs.{Prelude.{◌≡◌, ◌<◌, [], filter, IfOk, OnOk}, List.fold};
 ghost use Rattle.dir_values.specs.FlagSets.{has_flag};
 ghost use Rattle.field_votes.specs.Versions as counts;
 

@@ -1,6 +1,5 @@
 // The texts of versions in the order of the versions.
-ghost use Rattle.std.specs.Prelude.{◌≡◌};
-ghost use Rattle.std.specs.Option.{option_cmp};
+ghost use Rattle.std.specs.{Prelude.◌≡◌, Option.option_cmp};
 ghost use Rattle.dir_values.specs.Versions.{version_of, version_order};
 ghost use Rattle.field_votes.specs.Versions.{text_order};
 
@@ -14,10 +13,8 @@ pub(crate) struct VersionText<'a> {
 }
 
 impl<'a> PartialEq for VersionText<'a> {
-    ghost use Rattle.std.specs.Cmp.{partial_equiv_from_equiv, on_equiv, eq_by_cmp_equiv};
-    ghost use Rattle.std.specs.Ordering.{eq_by_cmp};
-    ghost use Rattle.field_votes.specs.Versions.{text_order};
-    ghost use Rattle.field_votes.specs.VersionKeys.{texts_total};
+    ghost use Rattle.std.specs.{Cmp.{partial_equiv_from_equiv, on_equiv, eq_by_cmp_equiv}, Ordering.eq_by_cmp};
+    ghost use Rattle.field_votes.specs.{Versions.text_order, VersionKeys.texts_total};
 
     ghost eq = { λ a b. eq_by_cmp text_order a.text.now b.text.now };
 
@@ -36,10 +33,8 @@ impl<'a> Eq for VersionText<'a> {
 }
 
 impl<'a> PartialOrd for VersionText<'a> {
-    ghost use Rattle.std.specs.Prelude.{Some, refl};
-    ghost use Rattle.std.specs.Cmp.{partial_order_from_agreeing_total, on_total};
-    ghost use Rattle.field_votes.specs.Versions.{text_order};
-    ghost use Rattle.field_votes.specs.VersionKeys.{texts_total};
+    ghost use Rattle.std.specs.{Prelude.{Some, refl}, Cmp.{partial_order_from_agreeing_total, on_total}};
+    ghost use Rattle.field_votes.specs.{Versions.text_order, VersionKeys.texts_total};
 
     ghost partial_cmp = { λ a b. Some (text_order a.text.now b.text.now) };
 
@@ -51,10 +46,8 @@ impl<'a> PartialOrd for VersionText<'a> {
 }
 
 impl<'a> Ord for VersionText<'a> {
-    ghost use Rattle.std.specs.Prelude.{refl};
-    ghost use Rattle.std.specs.Cmp.{on_total};
-    ghost use Rattle.field_votes.specs.Versions.{text_order};
-    ghost use Rattle.field_votes.specs.VersionKeys.{texts_total};
+    ghost use Rattle.std.specs.{Prelude.refl, Cmp.on_total};
+    ghost use Rattle.field_votes.specs.{Versions.text_order, VersionKeys.texts_total};
 
     ghost cmp = { λ a b. text_order a.text.now b.text.now };
 

@@ -1,24 +1,17 @@
 -- How many relays of an address come before one, in the order of the addresses.
-use Rattle.std.proofs.Common.{◌≡◌, ℕ, suc, ◌-◌, ◌<◌, ◌≤◌, Bool, true, false, cond, List, length, get_or, refl, sym, ap, ◌∙◌, arith, ⊎_elim}
-use Rattle.std.specs.Prelude.{nat_le, nat_lt, ◌==◌, ◌&&◌, ◌||◌}
-use Rattle.std.specs.Cmp.{IsTotalOrder, IsStrictWeakOrder}
-use Rattle.std.specs.Cmp.Lexicographic.{slice_cmp}
-use Rattle.std.specs.declared.cmp.Ordering.{Ordering}
-use Rattle.std.specs.declared.cmp.Ordering.TheVariants.{Less, Equal, Greater}
-use Rattle.std.specs.Ordering.{nat_cmp, ordering_then, is_lt}
-use Rattle.std.specs.List.{count_by}
-use Rattle.std.specs.List.Sorted.{IsPartitionedBy, IsPartitionPoint}
-use Rattle.std.proofs.lemmas.Cmp.{nat_cmp_total, nat_list_cmp_total, on_total, then_total, back_total}
-use Rattle.std.proofs.lemmas.Bool.{and_right, and_from, le-leb, lt-leb, lt-ltb, eqb-true, eqb-false, eq-eqb, ne_eqb, cases_lt, true_from_ne_false, true≢false, le-ltb}
-use Rattle.std.proofs.lemmas.List.{get_or_default}
-use Rattle.std.proofs.lemmas.List.Sorted.{ranks_by, sorted_far}
+use Rattle.std.proofs.Common.{◌≡◌, ℕ, suc, ◌-◌, ◌<◌, ◌≤◌, Bool, true, false, cond, List, length, get_or, refl, sym, ap}
+use Rattle.std.proofs.{Common.{◌∙◌, arith, ⊎_elim}, lemmas.Cmp.{nat_cmp_total, nat_list_cmp_total, on_total}}
+use Rattle.std.proofs.lemmas.{Cmp.{then_total, back_total}, Bool.{and_right, and_from, le-leb, lt-leb, lt-ltb}}
+use Rattle.std.proofs.lemmas.Bool.{eqb-true, eqb-false, eq-eqb, ne_eqb, cases_lt, true_from_ne_false, true≢false}
+use Rattle.std.{proofs.lemmas.{Bool.le-ltb, List.{get_or_default, Sorted.{ranks_by, sorted_far}}}, specs.Prelude.nat_le}
+use Rattle.std.specs.{Prelude.{nat_lt, ◌==◌, ◌&&◌, ◌||◌}, Cmp.{IsTotalOrder, IsStrictWeakOrder}}
+use Rattle.std.specs.{Cmp.Lexicographic.slice_cmp, declared.cmp.Ordering.{Ordering, TheVariants.{Less, Equal, Greater}}}
+use Rattle.std.specs.{Ordering.{nat_cmp, ordering_then, is_lt}, List.{count_by, Sorted.IsPartitionedBy}}
+use Rattle.std.specs.List.Sorted.{IsPartitionPoint}
 use Rattle.dir_values.specs.Digests.{is_less}
-use Rattle.flag_rules.specs.declared.relay.RuledRelay.{RuledRelay}
-use Rattle.flag_rules.specs.Relays.{bandwidth_of}
-use Rattle.flag_rules.specs.Standings.{is_ahead}
-use Rattle.flag_rules.specs.Private.{order_of, is_before, AreInOrder}
+use Rattle.flag_rules.specs.{declared.relay.RuledRelay.RuledRelay, Relays.bandwidth_of, Standings.is_ahead}
+use Rattle.flag_rules.{specs.Private.{order_of, is_before, AreInOrder}, proofs.Counts.{count_both, count_one}}
 use Rattle.count_terms.proofs.Passing.{count_low}
-use Rattle.flag_rules.proofs.Counts.{count_both, count_one}
 
 -- the order is one
 pub order_total : IsTotalOrder order_of

@@ -1,7 +1,7 @@
 -- How many items of a list pass a test, by where they stand.
-use Rattle.std.proofs.Common.{◌≡◌, ℕ, zero, suc, ◌+◌, ◌<◌, ◌≤◌, ◌≢◌, Bool, true, false, cond, List, [], ◌∷◌, length, get_or, refl, sym, ap, map, ◌∙◌, arith}
-use Rattle.std.specs.Prelude.{◌&&◌}
-use Rattle.std.specs.List.{count_by, filter, zip, AllPairs}
+use Rattle.std.proofs.Common.{◌≡◌, ℕ, zero, suc, ◌+◌, ◌<◌, ◌≤◌, ◌≢◌, Bool, true, false, cond, List, [], ◌∷◌, length}
+use Rattle.std.{proofs.Common.{get_or, refl, sym, ap, map, ◌∙◌, arith}, specs.{Prelude.◌&&◌, List.{count_by, filter}}}
+use Rattle.std.specs.List.{zip, AllPairs}
 use Rattle.count_terms.proofs.Passing.{count_low, more, one_at_most, one_if}
 
 -- where none passes but at one place, at most one does

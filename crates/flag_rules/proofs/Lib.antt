@@ -2,6 +2,7 @@ pub mod Counts
 pub mod Ordered
 pub mod Ahead
 pub mod RuledRelays
+pub mod ByIdentity
 pub mod OperatorRules
 pub mod NameSets
 pub mod TableFacts

@@ -1,7 +1,5 @@
 -- The set of some names, put in one after the other.
-use Rattle.std.proofs.Common.{◌≡◌, ℕ, Bool, true, false, List, [], ◌∷◌, map, refl}
-use Rattle.std.specs.Prelude.{filter}
-use Rattle.std.specs.List.{fold}
+use Rattle.std.{proofs.Common.{◌≡◌, ℕ, Bool, true, false, List, [], ◌∷◌, map, refl}, specs.{Prelude.filter, List.fold}}
 use Rattle.dir_values.specs.FlagSets.{with_flag}
 use Rattle.flag_rules.specs.Private.{with_name}
 

@@ -1,15 +1,12 @@
 -- The member at a place is the one that stands there once the list is sorted.
-use Rattle.std.proofs.Common.{◌≡◌, ℕ, ◌+◌, ◌<◌, ◌≤◌, Bool, true, false, cond, List, [], ◌∷◌, length, get_or, refl, sym, ap, ◌∙◌, arith, subst, ⊎_elim, Some, None, Option}
-use Rattle.std.specs.Prelude.{nat_le, nat_lt, ◌&&◌, unwrap_or}
-use Rattle.std.specs.List.{count_by, find, list_any}
-use Rattle.std.specs.List.Sorted.{IsPermutation, IsNonDecreasingBy}
-use Rattle.std.proofs.lemmas.Bool.{and_from, and_parts, le-leb, lt-ltb, lt-leb, le-ltb, leb-true, ltb-true, cases_order, and_right}
-use Rattle.std.proofs.lemmas.List.{get_or_default}
-use Rattle.std.proofs.lemmas.List.Folds.{list_any_at}
-use Rattle.std.proofs.lemmas.List.Sums.{count_by-le-length}
-use Rattle.std.proofs.lemmas.List.Sorted.{list_any-IsPermutation, length_permutation}
-use Rattle.count_terms.specs.Counts.{stands_at, member_at}
-use Rattle.count_terms.proofs.Passing.{count-permutation, count_low, count_high}
+use Rattle.std.proofs.Common.{◌≡◌, ℕ, ◌+◌, ◌<◌, ◌≤◌, Bool, true, false, cond, List, [], ◌∷◌, length, get_or, refl, sym}
+use Rattle.std.proofs.{Common.{ap, ◌∙◌, arith, subst, ⊎_elim, Some, None, Option}, lemmas.Bool.{and_from, and_parts}}
+use Rattle.std.proofs.lemmas.Bool.{le-leb, lt-ltb, lt-leb, le-ltb, leb-true, ltb-true, cases_order, and_right}
+use Rattle.std.proofs.lemmas.List.{get_or_default, Folds.list_any_at, Sums.count_by-le-length}
+use Rattle.std.{proofs.lemmas.List.Sorted.{list_any-IsPermutation, length_permutation}, specs.Prelude.{nat_le, nat_lt}}
+use Rattle.std.specs.{Prelude.{◌&&◌, unwrap_or}, List.{count_by, find, list_any, Sorted.IsPermutation}}
+use Rattle.std.specs.List.Sorted.{IsNonDecreasingBy}
+use Rattle.count_terms.{specs.Counts.{stands_at, member_at}, proofs.Passing.{count-permutation, count_low, count_high}}
 
 -- the member of a sorted list at a place stands there
 stands : (ys : List ℕ) (place : ℕ) → IsNonDecreasingBy (λ y. y) ys → place < length ys

@@ -1,12 +1,8 @@
 -- Relays and their rulings, taken apart and put together.
-use Rattle.std.proofs.Common.{◌≡◌, List, [], ◌∷◌, length, map, refl, sym, ap, ap₂, subst, ◌∙◌}
+use Rattle.std.proofs.{Common.{◌≡◌, List, [], ◌∷◌, length, map, refl, sym, ap, ap₂, subst, ◌∙◌}, lemmas.List.length-map}
 use Rattle.std.specs.Prelude.{All}
-use Rattle.std.proofs.lemmas.List.{length-map}
-use Rattle.flag_rules.specs.declared.relay.RelayFacts.{RelayFacts}
-use Rattle.flag_rules.specs.declared.relay.RuledRelay.{RuledRelay}
-use Rattle.flag_rules.specs.declared.ruling.Ruling.{Ruling}
-use Rattle.flag_rules.specs.Relays.{ruled_relays}
-use Rattle.flag_rules.specs.Rules.{AreRulings}
+use Rattle.flag_rules.specs.declared.{relay.{RelayFacts.RelayFacts, RuledRelay.RuledRelay}, ruling.Ruling.Ruling}
+use Rattle.flag_rules.specs.{Relays.ruled_relays, Rules.AreRulings}
 
 facts_again : (ruled : List RuledRelay) → ruled_relays (map (λ relay. relay.facts) ruled)
     (map (λ relay. relay.ruling) ruled) ≡ ruled

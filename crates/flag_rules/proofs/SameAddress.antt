@@ -1,26 +1,17 @@
 -- At most two relays of an address run.
-use Rattle.std.proofs.Common.{◌≡◌, ◌⊎◌, ℕ, ◌<◌, ◌≤◌, Bool, true, false, List, length, get_or, refl, sym, ap, ◌∙◌, arith, ⊎_elim, inl, inr}
+use Rattle.std.proofs.Common.{◌≡◌, ◌⊎◌, ℕ, ◌<◌, ◌≤◌, Bool, true, false, List, length, get_or, refl, sym, ap, ◌∙◌, arith}
+use Rattle.std.proofs.{Common.{⊎_elim, inl, inr}, lemmas.Bool.{and_parts, and_from, or_left, or_right, le-leb, lt-ltb}}
+use Rattle.std.proofs.lemmas.Bool.{eqb-true, eq-eqb, cases_order, cases_Bool, true≢false, false_from_ne_true}
 use Rattle.std.specs.Prelude.{◌==◌, nat_le, AllPairs, not, ◌&&◌, ◌||◌, filter, if◌then◌else◌}
-use Rattle.std.specs.declared.cmp.Ordering.{Ordering}
-use Rattle.std.specs.declared.cmp.Ordering.TheVariants.{Less, Equal, Greater}
-use Rattle.std.specs.Ordering.{is_lt}
-use Rattle.std.proofs.lemmas.Bool.{and_parts, and_from, or_left, or_right, le-leb, lt-ltb, eqb-true, eq-eqb, cases_order, cases_Bool, true≢false, false_from_ne_true}
-use Rattle.dir_values.proofs.Orders.{below_or_same}
-use Rattle.dir_values.specs.Digests.{identity_below, same_identity}
-use Rattle.flag_rules.specs.declared.relay.RelayFacts.{RelayFacts}
-use Rattle.flag_rules.specs.declared.relay.RuledRelay.{RuledRelay}
-use Rattle.flag_rules.specs.declared.standing.Standing.{Standing}
-use Rattle.flag_rules.specs.declared.thresholds.Thresholds.{Thresholds}
-use Rattle.flag_rules.specs.declared.flags.Flags.{Flags}
-use Rattle.flag_rules.specs.Limits.{most_at_address}
-use Rattle.flag_rules.specs.Relays.{bandwidth_of}
-use Rattle.flag_rules.specs.Rulings.{is_reject}
-use Rattle.flag_rules.specs.Standings.{is_reached, reached_relays, is_ahead, count_ahead, is_sybil, standing_of, standings_of, is_running, is_active}
+use Rattle.std.specs.{declared.cmp.Ordering.{Ordering, TheVariants.{Less, Equal, Greater}}, Ordering.is_lt}
+use Rattle.dir_values.{proofs.Orders.below_or_same, specs.Digests.{identity_below, same_identity}}
+use Rattle.flag_rules.specs.declared.{relay.{RelayFacts.RelayFacts, RuledRelay.RuledRelay}, standing.Standing.Standing}
+use Rattle.flag_rules.specs.{declared.{thresholds.Thresholds.Thresholds, flags.Flags.Flags}, Limits.most_at_address}
+use Rattle.flag_rules.specs.{Relays.bandwidth_of, Rulings.is_reject, Standings.{is_reached, reached_relays, is_ahead}}
+use Rattle.flag_rules.specs.Standings.{count_ahead, is_sybil, standing_of, standings_of, is_running, is_active}
 use Rattle.flag_rules.specs.Flags.{thresholds_of, sybil_alone, own_flags, flags_with, flags_of}
-use Rattle.flag_rules.specs.Laws.{TwoRunAtAnAddress}
-use Rattle.flag_rules.specs.Private.{order_of, is_before}
-use Rattle.flag_rules.proofs.Ahead.{order_total, ahead_is}
-use Rattle.flag_rules.proofs.Counts.{count_both, count_few, count-filter, count-zip}
+use Rattle.flag_rules.{specs.{Laws.TwoRunAtAnAddress, Private.{order_of, is_before}}, proofs.Ahead.order_total}
+use Rattle.flag_rules.proofs.{Ahead.ahead_is, Counts.{count_both, count_few, count-filter, count-zip}}
 
 less : (o : Ordering) → is_lt o ≡ true → o ≡ Less
 less Less is = refl

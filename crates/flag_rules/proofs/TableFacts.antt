@@ -1,23 +1,18 @@
 -- What follows from the table of flags.
-use Rattle.std.proofs.Common.{◌≡◌, ℕ, zero, suc, Bool, true, false, List, [], ◌∷◌, get_or, map, refl, ap, ap₂, ◌∙◌, arith, Some}
-use Rattle.std.specs.Prelude.{◌-◌, ◌==◌, nat_le, not, ◌&&◌, ◌||◌, filter, if◌then◌else◌}
-use Rattle.std.specs.Option.{option_map}
-use Rattle.std.proofs.lemmas.Bool.{and_parts, and_from, and_left, and_right, not_from_true}
-use Rattle.std.proofs.lemmas.Option.{slice_get-map}
-use Rattle.std.proofs.lemmas.List.Elements.{All-map}
-use Rattle.flag_rules.specs.declared.relay.RelayFacts.{RelayFacts}
-use Rattle.flag_rules.specs.declared.relay.RuledRelay.{RuledRelay}
-use Rattle.flag_rules.specs.declared.ruling.Ruling.{Ruling}
+use Rattle.std.proofs.Common.{◌≡◌, ℕ, zero, suc, Bool, true, false, List, [], ◌∷◌, get_or, map, refl, ap, ap₂, ◌∙◌}
+use Rattle.std.proofs.{Common.{arith, Some}, lemmas.Bool.{and_parts, and_from, and_left, and_right, not_from_true}}
+use Rattle.std.{proofs.lemmas.{Option.slice_get-map, List.Elements.All-map}, specs.Prelude.{◌-◌, ◌==◌, nat_le, not}}
+use Rattle.std.specs.{Prelude.{◌&&◌, ◌||◌, filter, if◌then◌else◌}, Option.option_map}
+use Rattle.flag_rules.specs.declared.{relay.{RelayFacts.RelayFacts, RuledRelay.RuledRelay}, ruling.Ruling.Ruling}
 use Rattle.flag_rules.specs.declared.ruling.Ruling.TheVariants.{Approve, Reject, Invalid, BadExit, MiddleOnly}
-use Rattle.flag_rules.specs.declared.standing.Standing.{Standing}
-use Rattle.flag_rules.specs.declared.thresholds.Thresholds.{Thresholds}
-use Rattle.flag_rules.specs.declared.flags.Flags.{Flags}
-use Rattle.flag_rules.specs.Limits.{reached_seconds, most_at_address}
-use Rattle.flag_rules.specs.Rulings.{is_reject, is_bad_exit, is_middle_only, same_ruling}
-use Rattle.flag_rules.specs.Rules.{ruling_for}
-use Rattle.flag_rules.specs.Standings.{is_reached, reached_relays, count_ahead, is_sybil, standing_of, standings_of, is_running, is_valid, is_active}
-use Rattle.flag_rules.specs.Flags.{thresholds_of, is_stable, is_fast, is_directory, is_sound, is_guard, is_hs_dir, is_exit, sybil_alone, own_flags, flags_with, flags_of}
-use Rattle.flag_rules.specs.Laws.{ListsRuleOneWay, RejectedRelaysHaveNoFlags, SybilsHaveNoOtherFlag, FlagsAgree, IsActive, IsSound, Agree}
+use Rattle.flag_rules.specs.declared.{standing.Standing.Standing, thresholds.Thresholds.Thresholds, flags.Flags.Flags}
+use Rattle.flag_rules.specs.{Limits.{reached_seconds, most_at_address}, Rulings.{is_reject, is_bad_exit}}
+use Rattle.flag_rules.specs.{Rulings.{is_middle_only, same_ruling}, Rules.ruling_for, Standings.is_reached}
+use Rattle.flag_rules.specs.Standings.{reached_relays, count_ahead, is_sybil, standing_of, standings_of, is_running}
+use Rattle.flag_rules.specs.{Standings.{is_valid, is_active}, Flags.{thresholds_of, is_stable, is_fast, is_directory}}
+use Rattle.flag_rules.specs.Flags.{is_sound, is_guard, is_hs_dir, is_exit, sybil_alone, own_flags, flags_with, flags_of}
+use Rattle.flag_rules.specs.Laws.{ListsRuleOneWay, RejectedRelaysHaveNoFlags, SybilsHaveNoOtherFlag, FlagsAgree}
+use Rattle.flag_rules.specs.Laws.{IsActive, IsSound, Agree}
 
 -- rulings that pass the test are one
 one_ruling : (a b : Ruling) → same_ruling a b ≡ true → a ≡ b

@@ -1,14 +1,12 @@
 -- The flags of relays (dir-spec, "Assigning flags in a vote"; the table is this project's).
-use Rattle.std.specs.Prelude.{ℕ, ◌+◌, ◌==◌, nat_le, nat_lt, Bool, false, not, ◌&&◌, ◌||◌, List, map, filter, if◌then◌else◌}
-use Rattle.flag_rules.specs.declared.relay.RuledRelay.{RuledRelay}
-use Rattle.flag_rules.specs.declared.standing.Standing.{Standing}
-use Rattle.flag_rules.specs.declared.thresholds.Thresholds.{Thresholds}
-use Rattle.flag_rules.specs.declared.flags.Flags.{Flags}
-use Rattle.flag_rules.specs.Limits.{fresh_seconds, stable_seconds, fast_kilobytes, familiar_seconds, guard_kilobytes, hs_dir_seconds}
-use Rattle.flag_rules.specs.Relays.{bandwidth_of}
-use Rattle.flag_rules.specs.Rulings.{is_reject, is_bad_exit, is_middle_only}
-use Rattle.count_terms.specs.Counts.{low_median, eighth_of}
+use Rattle.std.specs.Prelude.{ℕ, ◌+◌, ◌==◌, nat_le, nat_lt, Bool, false, not, ◌&&◌, ◌||◌, List, map, filter}
+use Rattle.std.specs.Prelude.{if◌then◌else◌}
+use Rattle.flag_rules.specs.declared.{relay.RuledRelay.RuledRelay, standing.Standing.Standing}
+use Rattle.flag_rules.specs.{declared.{thresholds.Thresholds.Thresholds, flags.Flags.Flags}, Limits.fresh_seconds}
+use Rattle.flag_rules.specs.Limits.{stable_seconds, fast_kilobytes, familiar_seconds, guard_kilobytes, hs_dir_seconds}
+use Rattle.flag_rules.specs.{Relays.bandwidth_of, Rulings.{is_reject, is_bad_exit, is_middle_only}}
 use Rattle.flag_rules.specs.Standings.{standings_of, is_running, is_valid, is_active}
+use Rattle.count_terms.specs.Counts.{low_median, eighth_of}
 
 -- what relays have: the mean times between their failures, their uptimes, bandwidths, and for how long they are known
 abbrev pub failure_times : List Standing → List ℕ
@@ -17,6 +15,7 @@ failure_times relays = map (λ relay. relay.facts.measured.wmtbf) relays
 abbrev pub fractional_uptimes : List Standing → List ℕ
 fractional_uptimes relays = map (λ relay. relay.facts.measured.wfu_ppm) relays
 
+-- the bandwidth of each relay
 abbrev pub bandwidths : List Standing → List ℕ
 bandwidths relays = map (λ relay. bandwidth_of relay.facts) relays
 

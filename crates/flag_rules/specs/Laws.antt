@@ -2,15 +2,10 @@
 use Rattle.std.specs.Prelude.{◌≡◌, ◌==◌, ◌≤◌, ◌&&◌, ℕ, true, false, List, map, All, AllPairs, Some, slice_get, count_by}
 use Rattle.std.specs.List.{zip}
 use Rattle.dir_values.specs.Digests.{same_identity}
-use Rattle.flag_rules.specs.declared.relay.RelayFacts.{RelayFacts}
-use Rattle.flag_rules.specs.declared.relay.RuledRelay.{RuledRelay}
-use Rattle.flag_rules.specs.declared.ruling.Ruling.{Ruling}
-use Rattle.flag_rules.specs.declared.operator.OperatorRule.{OperatorRule}
-use Rattle.flag_rules.specs.declared.flags.Flags.{Flags}
-use Rattle.flag_rules.specs.Limits.{most_at_address}
-use Rattle.flag_rules.specs.Rulings.{is_reject}
-use Rattle.flag_rules.specs.Rules.{AreAllowed, ruling_for, list_allows}
-use Rattle.flag_rules.specs.Flags.{sybil_alone, flags_of}
+use Rattle.flag_rules.specs.declared.{relay.{RelayFacts.RelayFacts, RuledRelay.RuledRelay}, ruling.Ruling.Ruling}
+use Rattle.flag_rules.specs.{declared.{operator.OperatorRule.OperatorRule, flags.Flags.Flags}, Limits.most_at_address}
+use Rattle.flag_rules.specs.{Rulings.is_reject, Rules.{AreAllowed, ruling_for, list_allows}, Flags.sybil_alone}
+use Rattle.flag_rules.specs.Flags.{flags_of}
 
 -- The rules of an operator allow one list of rulings of given relays.
 abbrev pub ListsRuleOneWay : Type 0

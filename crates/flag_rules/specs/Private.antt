@@ -1,15 +1,11 @@
 -- What the private functions of this crate say.
-use Rattle.std.specs.Prelude.{◌≡◌, ℕ, Bool, List, if◌then◌else◌}
-use Rattle.std.specs.declared.cmp.Ordering.{Ordering}
-use Rattle.std.specs.Ordering.{nat_cmp, ordering_then, is_lt}
-use Rattle.std.specs.Cmp.Lexicographic.{slice_cmp}
-use Rattle.std.specs.List.Sorted.{IsPermutation, IsSortedBy}
+use Rattle.std.specs.{Prelude.{◌≡◌, ℕ, Bool, List, if◌then◌else◌}, declared.cmp.Ordering.Ordering, Ordering.nat_cmp}
+use Rattle.std.specs.{Ordering.{ordering_then, is_lt}, Cmp.Lexicographic.slice_cmp, List.Sorted.IsPermutation}
+use Rattle.std.specs.List.Sorted.{IsSortedBy}
 use Rattle.dir_values.specs.FlagSets.{with_flag}
-use Rattle.flag_rules.specs.declared.relay.RuledRelay.{RuledRelay}
-use Rattle.flag_rules.specs.declared.standing.Standing.{Standing}
-use Rattle.flag_rules.specs.declared.operator.OperatorRule.{OperatorRule}
-use Rattle.flag_rules.specs.Relays.{bandwidth_of}
-use Rattle.flag_rules.specs.Standings.{reached_relays, standing_of}
+use Rattle.flag_rules.specs.declared.{relay.RuledRelay.RuledRelay, standing.Standing.Standing}
+use Rattle.flag_rules.specs.{declared.operator.OperatorRule.OperatorRule, Relays.bandwidth_of, Standings.reached_relays}
+use Rattle.flag_rules.specs.Standings.{standing_of}
 
 -- by address, then by the greater bandwidth, then by the smaller identity
 abbrev pub order_of : RuledRelay → RuledRelay → Ordering

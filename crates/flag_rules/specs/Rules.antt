@@ -1,13 +1,8 @@
 -- Rules: what a hook that rules by them owes, and the rules of an operator.
-use Rattle.std.specs.Prelude.{◌≡◌, Bool, true, false, IsTrue, List, [], ◌∷◌, length, All, AllPairs, if◌then◌else◌}
-use Rattle.dir_values.specs.Digests.{identity_below, same_identity}
-use Rattle.dir_values.specs.declared.digest.Fingerprint.{Fingerprint}
-use Rattle.flag_rules.specs.declared.relay.RelayFacts.{RelayFacts}
-use Rattle.flag_rules.specs.declared.ruling.Ruling.{Ruling}
-use Rattle.flag_rules.specs.declared.ruling.Ruling.TheVariants.{Approve}
-use Rattle.flag_rules.specs.declared.operator.OperatorRule.{OperatorRule}
-use Rattle.flag_rules.specs.Relays.{ruled_relays}
-use Rattle.flag_rules.specs.Rulings.{same_ruling}
+use Rattle.std.specs.Prelude.{◌≡◌, Bool, false, IsTrue, List, [], ◌∷◌, length, All, AllPairs, if◌then◌else◌}
+use Rattle.dir_values.specs.{Digests.{identity_below, same_identity}, declared.digest.Fingerprint.Fingerprint}
+use Rattle.flag_rules.specs.declared.{relay.RelayFacts.RelayFacts, ruling.Ruling.{Ruling, TheVariants.Approve}}
+use Rattle.flag_rules.specs.{declared.operator.OperatorRule.OperatorRule, Relays.ruled_relays, Rulings.same_ruling}
 
 -- What a hook owes: it may be asked of every relay, and each of its rulings is one that the rules allow.
 pub record KeepsTo {R F : Type 0} (allows : R → RelayFacts → Ruling → Bool)
@@ -31,17 +26,13 @@ ruling_for [] identity = Approve
 ruling_for (rule ∷ rules) identity =
     if same_identity rule.identity identity then rule.ruling else ruling_for rules identity
 
--- No two rules of an operator are for one identity.
-abbrev pub AreApart : List OperatorRule → Type 0
-AreApart rules = AllPairs (λ earlier later. same_identity earlier.identity later.identity ≡ false) rules
-
 -- Two lists of rules list the same ruling for each identity.
 abbrev pub RuleAlike : List OperatorRule → List OperatorRule → Type 0
 RuleAlike rules others = (identity : Fingerprint) → ruling_for others identity ≡ ruling_for rules identity
 
--- Rules ascend by identity, each identity once.
+-- No rule stands behind one of a greater identity.
 abbrev pub Ascend : List OperatorRule → Type 0
-Ascend rules = AllPairs (λ earlier later. identity_below earlier.identity later.identity ≡ true) rules
+Ascend rules = AllPairs (λ earlier later. identity_below later.identity earlier.identity ≡ false) rules
 
 -- the rules of an operator allow the one ruling that they list
 abbrev pub list_allows : List OperatorRule → RelayFacts → Ruling → Bool

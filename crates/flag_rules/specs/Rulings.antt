@@ -1,7 +1,6 @@
 -- What each ruling of an operator means.
 use Rattle.std.specs.Prelude.{Bool, true, false}
-use Rattle.flag_rules.specs.declared.ruling.Ruling.{Ruling}
-use Rattle.flag_rules.specs.declared.ruling.Ruling.TheVariants.{Approve, Reject, Invalid, BadExit, MiddleOnly}
+use Rattle.flag_rules.specs.declared.ruling.Ruling.{Ruling, TheVariants.{Approve, Reject, Invalid, BadExit, MiddleOnly}}
 
 -- whether a relay is left out
 abbrev pub is_reject : Ruling → Bool

@@ -1,13 +1,9 @@
 -- Relays among each other: those that are reached, those of an address that are too many, and those that count.
 use Rattle.std.specs.Prelude.{ℕ, ◌-◌, ◌==◌, nat_le, nat_lt, Bool, not, ◌&&◌, ◌||◌, List, map, filter, count_by}
 use Rattle.dir_values.specs.Digests.{identity_below}
-use Rattle.flag_rules.specs.declared.relay.RelayFacts.{RelayFacts}
-use Rattle.flag_rules.specs.declared.relay.RuledRelay.{RuledRelay}
-use Rattle.flag_rules.specs.declared.ruling.Ruling.{Ruling}
-use Rattle.flag_rules.specs.declared.standing.Standing.{Standing}
-use Rattle.flag_rules.specs.Limits.{reached_seconds, most_at_address}
-use Rattle.flag_rules.specs.Relays.{bandwidth_of}
-use Rattle.flag_rules.specs.Rulings.{is_reject, lets_valid}
+use Rattle.flag_rules.specs.declared.{relay.{RelayFacts.RelayFacts, RuledRelay.RuledRelay}, ruling.Ruling.Ruling}
+use Rattle.flag_rules.specs.{declared.standing.Standing.Standing, Limits.{reached_seconds, most_at_address}}
+use Rattle.flag_rules.specs.{Relays.bandwidth_of, Rulings.{is_reject, lets_valid}}
 
 -- whether a relay was found reachable within 45 minutes, is awake and is not rejected
 abbrev pub is_reached : ℕ → RelayFacts → Ruling → Bool

@@ -1,7 +1,7 @@
 // Which relays of an address are too many.
 ghost use Rattle.std.specs.Prelude.{◌≡◌, nat_le, IfOk};
-ghost use Rattle.flag_rules.specs.Limits.{most_at_address};
-ghost use Rattle.flag_rules.specs.Private.{order_of, is_before, AreInOrder, AreReachedInOrder, StandsAmong};
+ghost use Rattle.flag_rules.specs.{Limits.most_at_address, Private.{order_of, is_before, AreInOrder}};
+ghost use Rattle.flag_rules.specs.Private.{AreReachedInOrder, StandsAmong};
 ghost use Rattle.flag_rules.specs.Standings as standings;
 
 use crate::limits::MOST_AT_ADDRESS;

@@ -1,6 +1,5 @@
 // Numbers in ascending order.
-ghost use Rattle.std.specs.Prelude.{◌≡◌, ◌<◌, List, ℕ};
-ghost use Rattle.std.specs.List.Sorted.{IsPermutation};
+ghost use Rattle.std.specs.{Prelude.{◌≡◌, ◌<◌, List, ℕ}, List.Sorted.IsPermutation};
 ghost use Rattle.count_terms.specs.Counts as places;
 
 use std::marker::Model;
@@ -12,8 +11,7 @@ pub(crate) struct Ascending {
 }
 
 impl Model for Ascending {
-    ghost use Rattle.std.specs.Prelude.{List, ℕ};
-    ghost use Rattle.std.specs.List.Sorted.{IsNonDecreasing};
+    ghost use Rattle.std.specs.{Prelude.{List, ℕ}, List.Sorted.IsNonDecreasing};
 
     ghost Value = { List ℕ };
 

@@ -1,8 +1,7 @@
 // Rulings and flags of relays.
 ghost use Rattle.std.specs.Prelude.{◌≡◌, IfOk, All, map};
 ghost use Rattle.flag_rules.specs.Flags as table;
-ghost use Rattle.flag_rules.specs.Relays.{ruled_relays};
-ghost use Rattle.flag_rules.specs.Rules.{KeepsTo, AreRulings, AreAllowed};
+ghost use Rattle.flag_rules.specs.{Relays.ruled_relays, Rules.{KeepsTo, AreRulings, AreAllowed}};
 
 use crate::flags::Flags;
 use crate::hook::{Hook, Rules};

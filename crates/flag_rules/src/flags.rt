@@ -1,7 +1,6 @@
 // The flags of a relay.
 ghost use Rattle.std.specs.Prelude.{◌≡◌, IfOk, OnOk};
-ghost use Rattle.flag_rules.specs.Names.{names_of};
-ghost use Rattle.flag_rules.specs.Private.{with_name};
+ghost use Rattle.flag_rules.specs.{Names.names_of, Private.with_name};
 
 use dir_bytes::Memory;
 use dir_values::FlagSet;

@@ -8,8 +8,7 @@ use crate::ruling::Ruling;
 /// Rules: which rulings they allow of a relay.
 pub trait Rules {
     ghost use Rattle.std.specs.Prelude.{Bool};
-    ghost use Rattle.flag_rules.specs.declared.relay.RelayFacts.{RelayFacts};
-    ghost use Rattle.flag_rules.specs.declared.ruling.Ruling.{Ruling};
+    ghost use Rattle.flag_rules.specs.declared.{relay.RelayFacts.RelayFacts, ruling.Ruling.Ruling};
 
     ghost allows: { Self → RelayFacts → Ruling → Bool };
 }

@@ -1,11 +1,12 @@
 // The rules of an operator.
-ghost use Rattle.std.specs.Prelude.{◌≡◌};
+ghost use Rattle.std.specs.Prelude.{◌≡◌, IfOk};
 ghost use Rattle.flag_rules.specs.Private.{rule_order};
 ghost use Rattle.flag_rules.specs.Rules as operator_rules;
 
 use crate::hook::Rules;
 use crate::relay::RelayFacts;
 use crate::ruling::Ruling;
+use dir_bytes::Memory;
 use dir_values::Fingerprint;
 use std::cmp::Ordering;
 use std::marker::Model;
@@ -17,8 +18,8 @@ pub struct OperatorRule {
     pub ruling: Ruling,
 }
 
-/// The rules of an operator: the ruling that is listed for an identity, or else `Approve`. Contracts see them as the
-/// list of the rules, ascending by identity, each identity once.
+/// The rules of an operator: the ruling that is listed first for an identity, or else `Approve`. Contracts see them as
+/// the list of the rules, none behind one of a greater identity.
 #[derive(Debug, Drop)]
 pub struct OperatorList {
     rules: Vec<OperatorRule>,
@@ -26,8 +27,7 @@ pub struct OperatorList {
 
 impl Model for OperatorList {
     ghost use Rattle.std.specs.Prelude.{List};
-    ghost use Rattle.flag_rules.specs.declared.operator.OperatorRule.{OperatorRule};
-    ghost use Rattle.flag_rules.specs.Rules.{Ascend};
+    ghost use Rattle.flag_rules.specs.{declared.operator.OperatorRule.OperatorRule, Rules.Ascend};
 
     ghost Value = { List OperatorRule };
 
@@ -43,15 +43,16 @@ impl Rules for OperatorList {
 }
 
 impl OperatorList {
-    /// The list of the rules, of which no two are for one identity.
-    pub fn new(rules: Vec<OperatorRule>) -> OperatorList
-        requires { operator_rules.AreApart rules.items }
-        ensures ruling { operator_rules.RuleAlike rules.items result }
-        ensures ascending { operator_rules.Ascend result }
+    /// The list of the rules. Where two are for one identity, the first rules.
+    ///
+    /// # Errors
+    /// `Memory` is want of memory.
+    pub fn new(rules: Vec<OperatorRule>) -> Result<OperatorList, Memory>
+        ensures { IfOk result (λ list. operator_rules.RuleAlike rules.items list) }
     {
         let mut rules = rules;
-        rules.sort_unstable_by(|a, b| order(a, b));
-        OperatorList { rules }
+        rules.sort_by(|a, b| order(a, b))?;
+        Ok(OperatorList { rules })
     }
 
     /// What the list rules of a relay.
@@ -69,7 +70,7 @@ fn order(a: &OperatorRule, b: &OperatorRule) -> Ordering
     a.identity.0.as_slice().cmp(b.identity.0.as_slice())
 }
 
-/// The ruling that ascending rules list for an identity, or else `Approve`.
+/// The ruling that ascending rules list first for an identity, or else `Approve`.
 fn ruling_for(rules: &[OperatorRule], identity: &Fingerprint) -> Ruling
     requires { operator_rules.Ascend rules.now }
     ensures { result ≡ operator_rules.ruling_for rules.now identity.now }

@@ -1,6 +1,5 @@
 // What the active relays ask of the others.
-ghost use Rattle.std.specs.Prelude.{◌≡◌, IfOk};
-ghost use Rattle.std.specs.List.Sorted.{IsPermutation};
+ghost use Rattle.std.specs.{Prelude.{◌≡◌, IfOk}, List.Sorted.IsPermutation};
 ghost use Rattle.flag_rules.specs.Flags as flags;
 
 use crate::ascending::Ascending;

@@ -1,14 +1,8 @@
 -- The base64 of bytes is a word.
 use Rattle.std.proofs.Common.{◌≡◌, ℕ, suc, ◌+◌, ◌*◌, ◌/◌, ◌%◌, ◌<◌, true, List, [], ◌∷◌, length, refl, ap, ◌∙◌, arith}
-use Rattle.std.specs.Prelude.{slice_index}
-use Rattle.std.specs.List.{list_all}
-use Rattle.std.proofs.lemmas.Bool.{and_from}
-use Rattle.std.proofs.lemmas.List.{append-nil}
-use Rattle.base64.specs.Engines.{standard_no_pad}
-use Rattle.base64.specs.GeneralPurpose.{IsBytes}
-use Rattle.base64.specs.Rfc4648.{encode_group, encode_symbols}
-use Rattle.dir_bytes.specs.FieldTexts.{base64_text}
-use Rattle.dir_bytes.proofs.Spelling.{length-base64_text}
+use Rattle.std.{proofs.lemmas.{Bool.and_from, List.append-nil}, specs.{Prelude.slice_index, List.list_all}}
+use Rattle.base64.specs.{Engines.standard_no_pad, GeneralPurpose.IsBytes, Rfc4648.{encode_group, encode_symbols}}
+use Rattle.dir_bytes.{specs.FieldTexts.base64_text, proofs.Spelling.length-base64_text}
 use Rattle.dirdoc_grammar.specs.Writers.{is_argument, is_argument_byte}
 use Rattle.frame_laws.proofs.WordTexts.{Dark, at_index, both_dark, is_word}
 

@@ -1,37 +1,24 @@
 -- Sections that end are read: with their last item, as a document's last section or inside another; at the input's
 -- end; and before the next document.
 use Rattle.std.proofs.Common.{◌≡◌, ℕ, ◌≤◌, Bool, false, List, [], ◌∷◌, ◌++◌, Option, Some, None, Result, Ok, refl, sym}
-use Rattle.std.proofs.Common.{ap, subst, ◌∙◌}
-use Rattle.std.specs.Prelude.{map, not, if◌then◌else◌}
-use Rattle.std.proofs.lemmas.Bool.{and_right}
-use Rattle.item_terms.specs.Items.{Item}
-use Rattle.item_terms.specs.declared.fault.DocFault.{DocFault}
+use Rattle.std.{proofs.{Common.{ap, subst, ◌∙◌}, lemmas.Bool.and_right}, specs.Prelude.{map, not, if◌then◌else◌}}
+use Rattle.item_terms.specs.{Items.Item, declared.fault.DocFault.DocFault}
 use Rattle.dirdoc_grammar.specs.Writing.{all_written, written}
-use Rattle.frame_terms.specs.Decisions.{beyond_inside, beyond_inner, made_by}
-use Rattle.frame_terms.specs.Documents.{Document, closed_at, go_on, group, note_of_made, onto, read_items, start}
-use Rattle.frame_terms.specs.Order.{first_of, following_sections, inner, must_open}
-use Rattle.frame_terms.specs.Rows.{is_many}
-use Rattle.frame_terms.specs.Sections.{lacking_keyword, stands}
-use Rattle.frame_terms.specs.Standing.{by_keyword, ends, enters}
-use Rattle.frame_terms.specs.Tables.{Tables}
-use Rattle.frame_terms.specs.declared.document.Group.{Group}
-use Rattle.frame_terms.specs.declared.document.Made.TheVariants.{Enters, Opens, Pushes, Stops}
-use Rattle.frame_terms.specs.declared.document.Taken.{Taken}
-use Rattle.frame_terms.specs.declared.fault.FrameFault.{FrameFault}
-use Rattle.frame_terms.specs.declared.fault.ReadRefusal.{ReadRefusal}
-use Rattle.frame_terms.specs.declared.keyword.Keyword.{Keyword}
-use Rattle.frame_terms.specs.declared.row.Row.{Row}
-use Rattle.frame_laws.proofs.Both.{as_ok}
-use Rattle.frame_laws.proofs.Entries.{AlwaysSuits, Entry, Suits, after_one, all_taken, item_of, taken_at}
-use Rattle.frame_laws.proofs.Following.{IsFirst, MayFollow, first_made}
-use Rattle.frame_laws.proofs.Limits.{FitsIn, fits, fits_before, limit_inside, not_beyond}
-use Rattle.frame_laws.proofs.Places.{after_all, after_all-append, after_all-back, all_taken-append, both_written}
-use Rattle.frame_laws.proofs.Remembered.{Notes, notes_parts}
-use Rattle.frame_laws.proofs.SaidRows.{entries_of}
-use Rattle.frame_laws.proofs.Sections.{IsWritten, Section, end_of, entries_in, others_in, second_place}
-use Rattle.frame_laws.proofs.Sections.{section_before_last, section_but_last, section_more, taken_in}
-use Rattle.frame_laws.proofs.Reading.{read_on, takes_more}
-use Rattle.frame_laws.proofs.Steps.{IsAmong, IsLastOf, among, last_of, made_by-later, opening}
+use Rattle.frame_terms.specs.{Decisions.{beyond_inside, beyond_inner, made_by}, Documents.{Document, closed_at, go_on}}
+use Rattle.frame_terms.specs.{Documents.{group, note_of_made, onto, read_items, start}, Order.first_of}
+use Rattle.frame_terms.specs.{Order.{following_sections, inner, must_open}, Rows.is_many, Sections.lacking_keyword}
+use Rattle.frame_terms.specs.{Sections.stands, Standing.{by_keyword, ends, enters}, Tables.Tables}
+use Rattle.frame_terms.specs.declared.document.{Group.Group, Made.TheVariants.{Enters, Opens, Pushes, Stops}}
+use Rattle.frame_terms.specs.declared.{document.Taken.Taken, fault.{FrameFault.FrameFault, ReadRefusal.ReadRefusal}}
+use Rattle.frame_terms.specs.declared.{keyword.Keyword.Keyword, row.Row.Row}
+use Rattle.frame_laws.proofs.{Both.as_ok, Entries.{AlwaysSuits, Entry, Suits, after_one, all_taken, item_of, taken_at}}
+use Rattle.frame_laws.proofs.{Following.{IsFirst, MayFollow, first_made}, Limits.{FitsIn, fits, fits_before}}
+use Rattle.frame_laws.proofs.{Limits.{limit_inside, not_beyond}, Places.{after_all, after_all-append, after_all-back}}
+use Rattle.frame_laws.proofs.{Places.{all_taken-append, both_written}, Remembered.{Notes, notes_parts}}
+use Rattle.frame_laws.proofs.{SaidRows.entries_of, Sections.{IsWritten, Section, end_of, entries_in, others_in}}
+use Rattle.frame_laws.proofs.Sections.{second_place, section_before_last, section_but_last, section_more, taken_in}
+use Rattle.frame_laws.proofs.{Reading.{read_on, takes_more}, Steps.{IsAmong, IsLastOf, among, last_of, made_by-later}}
+use Rattle.frame_laws.proofs.Steps.{opening}
 
 -- its last item has this row of the table, and suits it
 pub record IsEnded {S K V X : Type 0} (tables : Tables S K V X) (section : Section S K V) (row : Row K)

@@ -1,12 +1,8 @@
 -- Items with the values that they are read with.
 use Rattle.std.proofs.Common.{◌≡◌, ℕ, ◌+◌, false, List, [], ◌∷◌, length, Option, Ok}
 use Rattle.dirdoc_grammar.specs.Writing.{NewItem, NewObject, item_text, written}
-use Rattle.frame_terms.specs.Keywords.{text_of}
-use Rattle.frame_terms.specs.Sections.{taken_of}
-use Rattle.frame_terms.specs.Tables.{Tables}
-use Rattle.frame_terms.specs.declared.document.Taken.{Taken}
-use Rattle.frame_terms.specs.declared.keyword.Keyword.{Keyword}
-use Rattle.frame_terms.specs.declared.row.Row.{Row}
+use Rattle.frame_terms.specs.{Keywords.text_of, Sections.taken_of, Tables.Tables, declared.document.Taken.Taken}
+use Rattle.frame_terms.specs.declared.{keyword.Keyword.Keyword, row.Row.Row}
 
 -- an item that is written, and the value that it is read with at a place
 pub record Entry (V : Type 0) : Type 0 where

@@ -1,38 +1,20 @@
 -- Sections that follow one another are read.
-use Rattle.std.proofs.Common.{◌≡◌, ℕ, Bool, true, List, [], ◌∷◌, ◌++◌, Option, Some, None, Result, Ok, sym, ap}
-use Rattle.std.proofs.Common.{subst, ◌∙◌}
-use Rattle.std.specs.Prelude.{map, if◌then◌else◌}
-use Rattle.item_terms.specs.Items.{Item}
-use Rattle.item_terms.specs.declared.fault.DocFault.{DocFault}
+use Rattle.std.proofs.Common.{◌≡◌, ℕ, Bool, true, List, [], ◌∷◌, ◌++◌, Option, Some, None, Result, Ok, sym, ap, subst}
+use Rattle.std.{proofs.Common.◌∙◌, specs.Prelude.{map, if◌then◌else◌}}
+use Rattle.item_terms.specs.{Items.Item, declared.fault.DocFault.DocFault}
 use Rattle.dirdoc_grammar.specs.Writing.{all_written, written}
-use Rattle.frame_terms.specs.Decisions.{first_item, made_by, made_first, unless_refused}
-use Rattle.frame_terms.specs.Documents.{Document, group, onto, read_items, start}
-use Rattle.frame_terms.specs.Order.{begins_document, inner, opener}
-use Rattle.frame_terms.specs.Sections.{lacking_keyword, row_of}
-use Rattle.frame_terms.specs.Standing.{as_made, begins, by_keyword}
-use Rattle.frame_terms.specs.Tables.{Tables}
-use Rattle.frame_terms.specs.declared.document.Group.{Group}
-use Rattle.frame_terms.specs.declared.document.Made.{Made}
-use Rattle.frame_terms.specs.declared.document.Made.TheVariants.{Pushes, Opens}
-use Rattle.frame_terms.specs.declared.document.Taken.{Taken}
-use Rattle.frame_terms.specs.declared.fault.FrameReason.TheVariants.{Missing}
-use Rattle.frame_terms.specs.declared.fault.ReadRefusal.{ReadRefusal}
-use Rattle.frame_terms.specs.declared.keyword.Keyword.{Keyword}
-use Rattle.frame_terms.specs.declared.row.Row.{Row}
+use Rattle.frame_terms.specs.{Decisions.{first_item, made_by, made_first, unless_refused}, Documents.{Document, group}}
+use Rattle.frame_terms.specs.{Documents.{onto, read_items, start}, Order.{begins_document, inner, opener}}
+use Rattle.frame_terms.specs.{Sections.{lacking_keyword, row_of}, Standing.{as_made, begins, by_keyword}, Tables.Tables}
+use Rattle.frame_terms.specs.declared.document.{Group.Group, Made.{Made, TheVariants.{Pushes, Opens}}, Taken.Taken}
+use Rattle.frame_terms.specs.declared.fault.{FrameReason.TheVariants.Missing, ReadRefusal.ReadRefusal}
+use Rattle.frame_terms.specs.declared.{keyword.Keyword.Keyword, row.Row.Row}
 use Rattle.frame_terms.specs.declared.section.Again.TheVariants as again
-use Rattle.frame_laws.proofs.Both.{both_hold}
-use Rattle.frame_laws.proofs.Entries.{Entry, Suits, item_of, taken_at}
-use Rattle.frame_laws.proofs.KnownWords.{known}
-use Rattle.frame_laws.proofs.Limits.{fits}
-use Rattle.frame_laws.proofs.Places.{both_written}
-use Rattle.frame_laws.proofs.ReadRows.{AreRead, Stand, both_stand}
-use Rattle.frame_laws.proofs.Remembered.{Notes}
-use Rattle.frame_laws.proofs.SaidRows.{entries_of}
-use Rattle.frame_laws.proofs.Sections.{IsWritten, Section, end_of, entries_in, others_in, rows_in, second_place}
-use Rattle.frame_laws.proofs.Sections.{section_is_read, section_more, section_whole, taken_in}
-use Rattle.frame_laws.proofs.Reading.{read_on, takes_more}
-use Rattle.frame_laws.proofs.Steps.{IsAgain, IsOpener, accepted, again_of, made_by-later, new_of_none, opener_of}
-use Rattle.frame_laws.proofs.Steps.{opening}
+use Rattle.frame_laws.proofs.{Entries.{Entry, Suits, item_of, taken_at}, KnownWords.known, Limits.fits}
+use Rattle.frame_laws.proofs.{Places.both_written, Remembered.Notes, SaidRows.entries_of, Sections.{IsWritten, Section}}
+use Rattle.frame_laws.proofs.Sections.{end_of, entries_in, others_in, second_place, section_more, section_whole}
+use Rattle.frame_laws.proofs.{Sections.taken_in, Reading.{read_on, takes_more}, Steps.{IsAgain, IsOpener, accepted}}
+use Rattle.frame_laws.proofs.Steps.{again_of, made_by-later, new_of_none, opener_of, opening}
 
 -- ---- a section that follows another
 
@@ -189,27 +171,6 @@ module _ {S K V X : Type 0} where
       last_whole tables are.0 after section.name (taken_at place section.opener) (others_in place section)
       (end_of place section) list
       (section_whole tables section place are.1.written) are.2
-
-module _ {K S V : Type 0} where
-  -- each of these sections is read, of which the first begins at a place
-  abbrev pub EachRead : ℕ → List ℕ → ℕ → List (Section S K V) → Type 0
-  EachRead limit bytes place [] = Unit {0}
-  EachRead limit bytes place (section ∷ list) =
-      AreRead limit bytes (taken_in place section) place (rows_in section) × EachRead limit bytes
-      (end_of place section) list
-
-module _ {S K V X : Type 0} where
-  -- those that follow one another are, where their items stand
-  pub sections_are_read : (tables : Tables S K V X) (limit : ℕ) (bytes : List ℕ) (across after : X) (before : S)
-      (place : ℕ)
-      (list : List (Section S K V)) → AreNext tables across before place list after
-      → Stand limit bytes place (entries_all list)
-      → EachRead limit bytes place list
-  sections_are_read tables limit bytes across after before place [] are stand = tt
-  sections_are_read tables limit bytes across after before place (section ∷ list) are stand =
-      let parts = both_stand limit bytes place (entries_in section) (entries_all list) stand in
-      both_hold (section_is_read tables limit bytes place section [] are.1.written parts.front)
-      (sections_are_read tables limit bytes are.0 after section.name (end_of place section) list are.2 parts.back)
 
 -- ---- the first section
 

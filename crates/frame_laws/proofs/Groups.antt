@@ -1,11 +1,8 @@
 -- The groups of sections that follow one another.
 use Rattle.std.proofs.Common.{◌≡◌, ℕ, List, [], ◌∷◌, ◌++◌, Result, Ok, refl, ap}
-use Rattle.frame_terms.specs.Documents.{Document, group, onto}
-use Rattle.frame_terms.specs.declared.document.Group.{Group}
-use Rattle.frame_terms.specs.declared.document.Taken.{Taken}
+use Rattle.frame_terms.specs.{Documents.{Document, group, onto}, declared.document.{Group.Group, Taken.Taken}}
 use Rattle.frame_terms.specs.declared.fault.ReadRefusal.{ReadRefusal}
-use Rattle.frame_laws.proofs.Entries.{taken_at}
-use Rattle.frame_laws.proofs.Following.{groups_of, last_first, last_name, last_others, onto_all}
+use Rattle.frame_laws.proofs.{Entries.taken_at, Following.{groups_of, last_first, last_name, last_others, onto_all}}
 use Rattle.frame_laws.proofs.Sections.{Section, end_of, others_in, taken_in}
 
 module _ {S K V : Type 0} where

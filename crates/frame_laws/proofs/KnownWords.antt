@@ -1,9 +1,9 @@
 -- Keywords that are one, and the text of each.
-use Rattle.std.proofs.Common.{◌≡◌, true, refl}
-use Rattle.std.proofs.lemmas.Cmp.{nat_eq_equiv}
-use Rattle.frame_terms.specs.Keywords.{number_of, same, word_of}
-use Rattle.frame_terms.specs.declared.keyword.Keyword.{Keyword}
-use Rattle.frame_terms.specs.declared.keyword.Keyword.TheVariants.{NetworkStatusVersion}
+use Rattle.std.proofs.{Common.{◌≡◌, true, refl, ap}, lemmas.Cmp.nat_eq_equiv}
+use denote.Enum.Bare.{same_true, true_same}
+use denote.Enum.Declared.{tag_of}
+use Rattle.frame_terms.specs.{Keywords.{same, word_of}, contracts.keyword.Keyword.the_type}
+use Rattle.frame_terms.specs.declared.keyword.Keyword.{Keyword, TheVariants.NetworkStatusVersion}
 use Rattle.frame_laws.specs.Known.{KeywordsAreKnown}
 
 -- each keyword is that of its text
@@ -12,15 +12,19 @@ unfolding word_of
 known NetworkStatusVersion = refl
 known _ = refl
 
+-- keywords that are the same are one
+pub one_keyword : (a b : Keyword) → same a b ≡ true → a ≡ b
+unfolding same
+one_keyword = same_true the_type tt
+
 pub same-refl : (a : Keyword) → same a a ≡ true
 unfolding same
-same-refl a = nat_eq_equiv.refl (number_of a)
+same-refl a = true_same the_type a a refl
 
 pub same-sym : (a b : Keyword) → same a b ≡ same b a
 unfolding same
-same-sym a b = nat_eq_equiv.symm (number_of a) (number_of b)
+same-sym a b = nat_eq_equiv.symm (tag_of the_type a) (tag_of the_type b)
 
 -- two keywords that are one are the same as any other
 pub same-through : (a b c : Keyword) → same a b ≡ true → same a c ≡ same b c
-unfolding same
-same-through a b c is = nat_eq_equiv.congr (number_of a) (number_of b) (number_of c) is
+same-through a b c is = ap (λ (k : Keyword). same k c) (one_keyword a b is)

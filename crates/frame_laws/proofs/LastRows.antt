@@ -1,20 +1,15 @@
 -- What is read of a section that was written with its last item.
 use Rattle.std.proofs.Common.{◌≡◌, ℕ, true, List, [], ◌∷◌, ◌++◌, Some, None, sym, ap, subst, ◌∙◌}
 use Rattle.std.proofs.lemmas.List.Elements.{filter-append}
-use Rattle.frame_terms.specs.Keywords.{same}
-use Rattle.frame_terms.specs.Sections.{lacking_keyword}
-use Rattle.frame_terms.specs.Tables.{Tables}
-use Rattle.frame_terms.specs.declared.document.Taken.{Taken}
+use Rattle.frame_terms.specs.{Keywords.same, Sections.lacking_keyword, Tables.Tables, declared.document.Taken.Taken}
 use Rattle.frame_terms.specs.declared.row.Row.{Row}
 use Rattle.frame_values.specs.Values.{item_at}
-use Rattle.frame_laws.proofs.Both.{both_hold}
-use Rattle.frame_laws.proofs.Ends.{entries_to, taken_to, taken_to-parts}
-use Rattle.frame_laws.proofs.Entries.{Entry, all_taken, taken_at}
-use Rattle.frame_laws.proofs.ReadRows.{AreRead, Stand, all_at, are_read, each_taken, first_if, item_at-first, none_at}
-use Rattle.frame_laws.proofs.ReadRows.{none_lacks}
-use Rattle.frame_laws.proofs.RowCounts.{counted_both, counted_once, entries_of-append, rows_of-append}
-use Rattle.frame_laws.proofs.SaidRows.{AreCounted, RowSays, are_apart, entries_of, items_at, row_once, rows_of}
-use Rattle.frame_laws.proofs.Sections.{IsWritten, Section, all_counted, end_of, rows_in, section_before_last, taken_in}
+use Rattle.frame_laws.proofs.{Both.both_hold, Ends.{entries_to, taken_to, taken_to-parts}, Entries.{Entry, all_taken}}
+use Rattle.frame_laws.proofs.{Entries.taken_at, ReadRows.{AreRead, Stand, all_at, are_read, each_taken, first_if}}
+use Rattle.frame_laws.proofs.{ReadRows.{item_at-first, none_at, none_lacks}, RowCounts.{counted_both, counted_once}}
+use Rattle.frame_laws.proofs.{RowCounts.{entries_of-append, rows_of-append}, SaidRows.{AreCounted, RowSays, are_apart}}
+use Rattle.frame_laws.proofs.{SaidRows.{entries_of, items_at, row_once, rows_of}, Sections.{IsWritten, Section}}
+use Rattle.frame_laws.proofs.Sections.{all_counted, end_of, rows_in, section_before_last, taken_in}
 
 module _ {S K V : Type 0} where
   -- all its rows

@@ -1,20 +1,12 @@
 -- The bytes that a section may have inside another.
 use Rattle.std.proofs.Common.{◌≡◌, ℕ, ◌+◌, ◌-◌, ◌≤◌, Bool, true, false, List, ◌∷◌, Option, Some, None, refl, ap, ◌∙◌}
-use Rattle.std.proofs.Common.{arith}
-use Rattle.std.specs.Prelude.{nat_lt, if◌then◌else◌}
+use Rattle.std.{proofs.Common.arith, specs.Prelude.{nat_lt, if◌then◌else◌}}
 use Rattle.item_terms.specs.Items.{Item}
 use Rattle.dirdoc_grammar.specs.Writing.{written}
-use Rattle.frame_terms.specs.Decisions.{beyond, beyond_inside, beyond_inner}
-use Rattle.frame_terms.specs.Order.{inner}
-use Rattle.frame_terms.specs.Rows.{limit_number}
-use Rattle.frame_terms.specs.Sections.{stands}
-use Rattle.frame_terms.specs.Tables.{Tables}
-use Rattle.frame_terms.specs.declared.document.Group.{Group}
-use Rattle.frame_terms.specs.declared.document.Taken.{Taken}
-use Rattle.frame_terms.specs.declared.fault.FrameFault.{FrameFault}
-use Rattle.frame_terms.specs.declared.fault.FrameReason.TheVariants.{TooMany}
-use Rattle.frame_terms.specs.declared.keyword.Keyword.{Keyword}
-use Rattle.frame_terms.specs.declared.row.Limit.{Limit}
+use Rattle.frame_terms.specs.{Decisions.{beyond, beyond_inside, beyond_inner}, Order.inner, Rows.limit_number}
+use Rattle.frame_terms.specs.{Sections.stands, Tables.Tables, declared.document.{Group.Group, Taken.Taken}}
+use Rattle.frame_terms.specs.declared.fault.{FrameFault.FrameFault, FrameReason.TheVariants.TooMany}
+use Rattle.frame_terms.specs.declared.{keyword.Keyword.Keyword, row.Limit.Limit}
 use Rattle.frame_laws.proofs.Entries.{Entry, after_one, item_of}
 
 -- what begins at the first place ends at the second within a limit, if there is one

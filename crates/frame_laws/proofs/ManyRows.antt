@@ -1,14 +1,8 @@
 -- Rows of which any number of items may stand, one for each value of a list.
-use Rattle.std.proofs.Common.{◌≡◌, true, false, List, [], ◌∷◌}
-use Rattle.std.specs.Prelude.{All, map}
-use Rattle.std.proofs.lemmas.Bool.{both_ways}
-use Rattle.std.proofs.lemmas.List.Elements.{All-head, All-tail}
-use Rattle.frame_terms.specs.Rows.{is_many, is_one}
-use Rattle.frame_terms.specs.Tables.{Tables}
-use Rattle.frame_terms.specs.declared.row.Row.{Row}
-use Rattle.frame_laws.proofs.Both.{both_hold}
-use Rattle.frame_laws.proofs.Entries.{AlwaysSuits, Entry}
-use Rattle.frame_laws.proofs.SaidRows.{EachSuits, IsSaid, RowSays}
+use Rattle.std.proofs.{Common.{◌≡◌, true, false, List, [], ◌∷◌}, lemmas.{Bool.both_ways, List.Elements.All-head}}
+use Rattle.std.{proofs.lemmas.List.Elements.All-tail, specs.Prelude.{All, map}}
+use Rattle.frame_terms.specs.{Rows.{is_many, is_one}, Tables.Tables, declared.row.Row.Row}
+use Rattle.frame_laws.proofs.{Both.both_hold, Entries.{AlwaysSuits, Entry}, SaidRows.{EachSuits, IsSaid, RowSays}}
 
 module _ {A K V : Type 0} where
   -- an item of a row for each value

@@ -1,25 +1,13 @@
 -- The items of a section that are written row by row are read one after the other.
 use Rattle.std.proofs.Common.{◌≡◌, ℕ, ◌≤◌, Bool, true, false, List, [], ◌∷◌, ◌++◌, length, Option, refl, sym, ap, subst}
-use Rattle.std.proofs.Common.{◌∙◌, append_assoc, append-nil, arith}
-use Rattle.std.specs.Prelude.{◌&&◌, not}
-use Rattle.std.proofs.lemmas.Bool.{and_parts, and_right, not-true, or_from}
-use Rattle.std.proofs.lemmas.List.Folds.{list_any-append}
-use Rattle.frame_terms.specs.Keywords.{same}
-use Rattle.frame_terms.specs.Rows.{is_many}
-use Rattle.frame_terms.specs.Sections.{stands}
-use Rattle.frame_terms.specs.Tables.{Tables}
-use Rattle.frame_terms.specs.declared.document.Group.{Group}
-use Rattle.frame_terms.specs.declared.document.Taken.{Taken}
-use Rattle.frame_terms.specs.declared.keyword.Keyword.{Keyword}
-use Rattle.frame_terms.specs.declared.row.Row.{Row}
-use Rattle.frame_laws.proofs.Both.{both_hold}
-use Rattle.frame_laws.proofs.Entries.{Entry, after_one, all_taken, taken_at}
-use Rattle.frame_laws.proofs.Limits.{FitsIn, fits_before, limit_inside}
-use Rattle.frame_laws.proofs.Places.{after_all, after_all-append, after_all-back}
+use Rattle.std.proofs.{Common.{◌∙◌, append_assoc, append-nil, arith}, lemmas.Bool.{and_parts, and_right, not-true}}
+use Rattle.std.{proofs.lemmas.{Bool.or_from, List.Folds.list_any-append}, specs.Prelude.{◌&&◌, not}}
+use Rattle.frame_terms.specs.{Keywords.same, Rows.is_many, Sections.stands, Tables.Tables}
+use Rattle.frame_terms.specs.declared.{document.{Group.Group, Taken.Taken}, keyword.Keyword.Keyword, row.Row.Row}
+use Rattle.frame_laws.proofs.{Both.both_hold, Entries.{Entry, after_one, all_taken, taken_at}, Limits.FitsIn}
+use Rattle.frame_laws.proofs.{Limits.{fits_before, limit_inside}, Places.{after_all, after_all-append, after_all-back}}
 use Rattle.frame_laws.proofs.SaidRows.{AreSaid, EachNamed, EachSuits, RowSays, are_apart, each_named, entries_of, lack}
-use Rattle.frame_laws.proofs.SaidRows.{rows_of}
-use Rattle.frame_laws.proofs.Reading.{AreMore}
-use Rattle.frame_laws.proofs.Steps.{IsInTable, IsNew, later_item_is_pushed}
+use Rattle.frame_laws.proofs.{SaidRows.rows_of, Reading.AreMore, Steps.{IsInTable, IsNew, later_item_is_pushed}}
 
 -- ---- which keywords stand
 

@@ -1,16 +1,11 @@
 -- Items whose values pass a test, by the kinds of their rows; as those of which a document remembers nothing.
-use Rattle.std.proofs.Common.{◌≡◌, ℕ, Bool, true, List, [], ◌∷◌, ◌++◌, Ok, refl}
+use Rattle.std.proofs.{Common.{◌≡◌, ℕ, Bool, true, List, [], ◌∷◌, ◌++◌, Ok, refl}, lemmas.Bool.and_parts}
 use Rattle.std.specs.List.{list_all}
-use Rattle.std.proofs.lemmas.Bool.{and_parts}
 use Rattle.item_terms.specs.Items.{Item}
 use Rattle.dirdoc_grammar.specs.Writing.{written}
-use Rattle.frame_terms.specs.Tables.{Tables}
-use Rattle.frame_terms.specs.declared.document.Taken.{Taken}
-use Rattle.frame_terms.specs.declared.row.Row.{Row}
-use Rattle.frame_laws.proofs.Both.{both_hold}
-use Rattle.frame_laws.proofs.Entries.{Entry, after_one, all_taken, item_of, taken_at}
-use Rattle.frame_laws.proofs.Remembered.{Notes}
-use Rattle.frame_laws.proofs.SaidRows.{AreSaid, EachSuits, RowSays, entries_of, rows_of}
+use Rattle.frame_terms.specs.{Tables.Tables, declared.{document.Taken.Taken, row.Row.Row}}
+use Rattle.frame_laws.proofs.{Both.both_hold, Entries.{Entry, after_one, all_taken, item_of, taken_at}}
+use Rattle.frame_laws.proofs.{Remembered.Notes, SaidRows.{AreSaid, EachSuits, RowSays, entries_of, rows_of}}
 
 module _ {V : Type 0} where
   -- the value of each item passes, wherever it stands

@@ -1,14 +1,10 @@
 -- Where items end that are written one after the other.
 use Rattle.std.proofs.Common.{◌≡◌, ℕ, ◌+◌, ◌≤◌, false, List, [], ◌∷◌, ◌++◌, length, refl, ap, subst, ◌∙◌, arith}
-use Rattle.std.specs.Prelude.{◌&&◌, map}
-use Rattle.std.proofs.lemmas.List.{drop_at, length-append}
-use Rattle.item_terms.specs.Items.{Contents, Item, contents, items_from, nothing}
-use Rattle.item_terms.specs.Words.{begins_dash}
+use Rattle.std.{proofs.lemmas.List.{drop_at, length-append}, specs.Prelude.{◌&&◌, map}}
+use Rattle.item_terms.specs.{Items.{Contents, Item, contents, items_from, nothing}, Words.begins_dash}
 use Rattle.grammar_laws.proofs.ItemsAgain.{items_again}
-use Rattle.dirdoc_grammar.proofs.Places.{stand_in_place}
-use Rattle.dirdoc_grammar.specs.InPlace.{EachInPlace}
-use Rattle.dirdoc_grammar.specs.Writing.{AreWritable, IsWritable, NewItem, all_written, in_front, is_open, item_text, items_text}
-use Rattle.dirdoc_grammar.specs.Writing.{written}
+use Rattle.dirdoc_grammar.{proofs.Places.stand_in_place, specs.{InPlace.EachInPlace, Writing.{AreWritable, IsWritable}}}
+use Rattle.dirdoc_grammar.specs.Writing.{NewItem, all_written, in_front, is_open, item_text, items_text, written}
 use Rattle.frame_terms.specs.declared.document.Taken.{Taken}
 use Rattle.frame_laws.proofs.Entries.{Entry, after_one, all_taken, item_of, taken_at}
 

@@ -1,28 +1,18 @@
 -- Of a section that was written row by row, the items of each row are found by its keyword, and nothing is lacking.
 use Rattle.std.proofs.Common.{◌≡◌, ℕ, ◌+◌, ◌≤◌, Bool, true, false, List, [], ◌∷◌, ◌++◌, length, Option, Some, None}
-use Rattle.std.proofs.Common.{refl, sym, ap, subst, ◌∙◌, append_assoc, append-nil, arith}
-use Rattle.std.specs.Prelude.{◌&&◌, map, not, if◌then◌else◌}
-use Rattle.std.specs.List.{find}
-use Rattle.std.proofs.lemmas.Bool.{and_parts, not-true, or_from, or_parts, true_from_ne_false}
-use Rattle.std.proofs.lemmas.List.{map-append}
-use Rattle.std.proofs.lemmas.List.Elements.{filter-append}
-use Rattle.std.proofs.lemmas.List.Folds.{list_any-append}
-use Rattle.dirdoc_grammar.specs.InPlace.{EachInPlace}
-use Rattle.dirdoc_grammar.specs.Writing.{AreWritable, NewItem, all_written, items_text}
-use Rattle.frame_terms.specs.Keywords.{same}
-use Rattle.frame_terms.specs.Rows.{is_one}
-use Rattle.frame_terms.specs.Sections.{keyword_if, lacking_keyword, lacking_but, stands}
-use Rattle.frame_terms.specs.declared.document.Taken.{Taken}
-use Rattle.frame_terms.specs.declared.keyword.Keyword.{Keyword}
-use Rattle.frame_terms.specs.declared.row.Row.{Row}
+use Rattle.std.proofs.{Common.{refl, sym, ap, subst, ◌∙◌, append_assoc, append-nil, arith}, lemmas.Bool.and_parts}
+use Rattle.std.proofs.lemmas.{Bool.{not-true, or_from, or_parts, true_from_ne_false}, List.map-append}
+use Rattle.std.{proofs.lemmas.List.{Elements.filter-append, Folds.list_any-append}, specs.Prelude.{◌&&◌, map, not}}
+use Rattle.std.specs.{Prelude.if◌then◌else◌, List.find}
+use Rattle.dirdoc_grammar.specs.{InPlace.EachInPlace, Writing.{AreWritable, NewItem, all_written, items_text}}
+use Rattle.frame_terms.specs.{Keywords.same, Rows.is_one, Sections.{keyword_if, lacking_keyword, lacking_but, stands}}
+use Rattle.frame_terms.specs.declared.{document.Taken.Taken, keyword.Keyword.Keyword, row.Row.Row}
 use Rattle.frame_values.specs.Values.{item_at}
-use Rattle.frame_laws.proofs.Both.{both_hold}
-use Rattle.frame_laws.proofs.Entries.{Entry, after_one, all_taken, item_of, taken_at}
-use Rattle.frame_laws.proofs.KnownWords.{same-refl, same-sym}
-use Rattle.frame_laws.proofs.MoreRows.{NoneStand, none_after, none_before, stands-other}
-use Rattle.frame_laws.proofs.Places.{after_all, after_all-same, all_taken-append, both_writable, part_in_place}
-use Rattle.frame_laws.proofs.SaidRows.{AreCounted, EachNamed, IsCounted, RowSays, are_apart, entries_of, items_at, lack}
-use Rattle.frame_laws.proofs.SaidRows.{row_said, rows_of}
+use Rattle.frame_laws.proofs.{Both.both_hold, Entries.{Entry, after_one, all_taken, item_of, taken_at}}
+use Rattle.frame_laws.proofs.{KnownWords.{same-refl, same-sym}, MoreRows.{NoneStand, none_after, none_before}}
+use Rattle.frame_laws.proofs.{MoreRows.stands-other, Places.{after_all, after_all-same, all_taken-append}}
+use Rattle.frame_laws.proofs.{Places.{both_writable, part_in_place}, SaidRows.{AreCounted, EachNamed, IsCounted}}
+use Rattle.frame_laws.proofs.SaidRows.{RowSays, are_apart, entries_of, items_at, lack, row_said, rows_of}
 
 -- ---- the items of a keyword
 

@@ -1,22 +1,13 @@
 -- A document goes on after items that may stand.
 use Rattle.std.proofs.Common.{◌≡◌, ℕ, List, [], ◌∷◌, ◌++◌, Option, Result, Ok, sym, ap, ◌∙◌, append_assoc, append-nil}
 use Rattle.std.specs.Prelude.{map}
-use Rattle.item_terms.specs.Items.{Item}
-use Rattle.item_terms.specs.declared.fault.DocFault.{DocFault}
+use Rattle.item_terms.specs.{Items.Item, declared.fault.DocFault.DocFault}
 use Rattle.dirdoc_grammar.specs.Writing.{written, all_written}
-use Rattle.frame_terms.specs.Decisions.{made_by}
-use Rattle.frame_terms.specs.Documents.{Document, after_made, after_noted, go_on, note_of_made, read_items}
-use Rattle.frame_terms.specs.Tables.{Tables}
-use Rattle.frame_terms.specs.declared.document.Group.{Group}
-use Rattle.frame_terms.specs.declared.document.Made.{Made}
-use Rattle.frame_terms.specs.declared.document.Made.TheVariants.{Pushes}
-use Rattle.frame_terms.specs.declared.document.Open.{Open}
-use Rattle.frame_terms.specs.declared.document.Taken.{Taken}
-use Rattle.frame_terms.specs.declared.fault.FrameFault.{FrameFault}
-use Rattle.frame_terms.specs.declared.fault.ReadRefusal.{ReadRefusal}
-use Rattle.frame_laws.proofs.Entries.{Entry, after_one, all_taken, item_of, taken_at}
-use Rattle.frame_laws.proofs.Remembered.{Notes}
-use Rattle.frame_laws.proofs.Steps.{opening}
+use Rattle.frame_terms.specs.{Decisions.made_by, Documents.{Document, after_made, after_noted, go_on, note_of_made}}
+use Rattle.frame_terms.specs.{Documents.read_items, Tables.Tables, declared.document.{Group.Group, Made.Made}}
+use Rattle.frame_terms.specs.declared.document.{Made.TheVariants.Pushes, Open.Open, Taken.Taken}
+use Rattle.frame_terms.specs.declared.fault.{FrameFault.FrameFault, ReadRefusal.ReadRefusal}
+use Rattle.frame_laws.proofs.{Entries.{Entry, after_one, all_taken, item_of, taken_at}, Remembered.Notes, Steps.opening}
 
 module _ {S K V X : Type 0} where
   -- the document goes on after an item that makes this, and may stand

@@ -1,7 +1,6 @@
 -- What a document remembers across its items.
 use Rattle.std.proofs.Common.{◌≡◌, List, [], ◌∷◌, ◌++◌, Ok, refl, subst, sym}
-use Rattle.frame_terms.specs.Tables.{Tables}
-use Rattle.frame_terms.specs.declared.document.Taken.{Taken}
+use Rattle.frame_terms.specs.{Tables.Tables, declared.document.Taken.Taken}
 
 module _ {S K V X : Type 0} where
   -- Where this is remembered before items, each of them may stand, and that is remembered after them.

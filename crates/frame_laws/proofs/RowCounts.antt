@@ -1,15 +1,9 @@
 -- Rows that are said, by how many items stand of them.
 use Rattle.std.proofs.Common.{◌≡◌, false, List, [], ◌∷◌, ◌++◌, refl, ap, sym, ◌∙◌, append_assoc, arith}
-use Rattle.std.specs.Prelude.{map}
-use Rattle.std.proofs.lemmas.Bool.{both_ways}
-use Rattle.std.proofs.lemmas.List.{map-append}
-use Rattle.frame_terms.specs.Rows.{is_one}
-use Rattle.frame_terms.specs.Tables.{Tables}
-use Rattle.frame_terms.specs.declared.row.Row.{Row}
-use Rattle.frame_laws.proofs.Both.{both_hold}
-use Rattle.frame_laws.proofs.Entries.{AlwaysSuits, Entry, item_of}
-use Rattle.frame_laws.proofs.SaidRows.{AreCounted, IsCounted, IsSaid, RowSays, entries_of, items_of, row_none, row_once}
-use Rattle.frame_laws.proofs.SaidRows.{rows_of}
+use Rattle.std.{proofs.lemmas.{Bool.both_ways, List.map-append}, specs.Prelude.map}
+use Rattle.frame_terms.specs.{Rows.is_one, Tables.Tables, declared.row.Row.Row}
+use Rattle.frame_laws.proofs.{Both.both_hold, Entries.{AlwaysSuits, Entry, item_of}, SaidRows.{AreCounted, IsCounted}}
+use Rattle.frame_laws.proofs.SaidRows.{IsSaid, RowSays, entries_of, items_of, row_none, row_once, rows_of}
 
 module _ {K V : Type 0} where
   -- an item of its row's keyword

@@ -1,25 +1,15 @@
 -- Rows that say a text, a moment, an identity or an object, and what is read of them.
 use Rattle.std.proofs.Common.{◌≡◌, ℕ, ◌≤◌, false, List, [], ◌∷◌, Option, Some, None, refl, ap, ◌∙◌, arith}
-use Rattle.std.specs.Prelude.{IfSome, map, option_map}
-use Rattle.std.proofs.lemmas.Bool.{both_ways}
-use Rattle.dir_bytes.specs.Causes.{last_moment}
-use Rattle.dir_bytes.specs.FieldTexts.{hex_text, moment_text}
+use Rattle.std.{proofs.lemmas.Bool.both_ways, specs.Prelude.{IfSome, map, option_map}}
+use Rattle.dir_bytes.specs.{Causes.last_moment, FieldTexts.{hex_text, moment_text}}
 use Rattle.dir_values.specs.declared.digest.Fingerprint.{Fingerprint}
-use Rattle.frame_terms.specs.Rows.{is_one}
-use Rattle.frame_terms.specs.Tables.{Tables}
-use Rattle.frame_terms.specs.declared.document.Taken.{Taken}
-use Rattle.frame_terms.specs.declared.keyword.Keyword.{Keyword}
+use Rattle.frame_terms.specs.{Rows.is_one, Tables.Tables, declared.{document.Taken.Taken, keyword.Keyword.Keyword}}
 use Rattle.frame_terms.specs.declared.row.Row.{Row}
-use Rattle.frame_values.specs.Items.{item_if}
-use Rattle.frame_values.specs.Parts.{bytes_in, moment_of, part}
-use Rattle.frame_values.specs.Values.{fingerprint_in, item_at, number_in, object_in, text_if, text_in, text_of_value}
-use Rattle.frame_values.specs.declared.values.Value.{Value}
+use Rattle.frame_values.specs.{Items.item_if, Parts.{bytes_in, moment_of, part}, Values.{fingerprint_in, item_at}}
+use Rattle.frame_values.specs.{Values.{number_in, object_in, text_if, text_in}, declared.values.Value.Value}
 use Rattle.frame_values.specs.declared.values.Value.TheVariants as value
-use Rattle.frame_laws.proofs.Both.{both_hold}
-use Rattle.frame_laws.proofs.Entries.{AlwaysSuits, Entry, item_of}
-use Rattle.frame_laws.proofs.ReadRows.{IsRead, item_of_row}
-use Rattle.frame_laws.proofs.SaidRows.{IsSaid, RowSays, row_once}
-use Rattle.frame_laws.proofs.StandingParts.{once, rest_part, spelled}
+use Rattle.frame_laws.proofs.{Both.both_hold, Entries.{AlwaysSuits, Entry, item_of}, ReadRows.{IsRead, item_of_row}}
+use Rattle.frame_laws.proofs.{SaidRows.{IsSaid, RowSays, row_once}, StandingParts.{once, rest_part, spelled}}
 use Rattle.frame_laws.proofs.WrittenItems.{lines_at, rest_at}
 
 module _ {W : Type 0} where
@@ -148,10 +138,3 @@ module _ {K W : Type 0} {limit : ℕ} {bytes : List ℕ} {taken : List (Taken (V
   object_said row words object read =
       ap (λ (o : Option (Taken (Value W))). bytes_in bytes (object_in o)) (item_of_row read)
       ∙ spelled object read.stand.writable.0.object.bytes read.stand.in_place.0 refl
-
--- ---- any number of texts
-
-module _ {W : Type 0} where
-  -- the text of one item
-  abbrev pub text_of_item : List ℕ → Taken (Value W) → List ℕ
-  text_of_item bytes one = part bytes (text_in (text_of_value one.value))

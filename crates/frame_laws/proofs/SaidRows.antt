@@ -1,16 +1,10 @@
 -- What a section says, row by row of its table.
 use Rattle.std.proofs.Common.{◌≡◌, ◌≤◌, Bool, true, false, List, [], ◌∷◌, ◌++◌, length, Option, Some, None}
-use Rattle.std.specs.Prelude.{◌&&◌, map, not, if◌then◌else◌}
-use Rattle.std.specs.List.{filter}
+use Rattle.std.specs.{Prelude.{◌&&◌, map, not, if◌then◌else◌}, List.filter}
 use Rattle.dirdoc_grammar.specs.Writing.{NewItem}
-use Rattle.frame_terms.specs.Keywords.{same}
-use Rattle.frame_terms.specs.Rows.{is_many, is_one}
-use Rattle.frame_terms.specs.Tables.{Tables}
-use Rattle.frame_terms.specs.declared.document.Taken.{Taken}
-use Rattle.frame_terms.specs.declared.keyword.Keyword.{Keyword}
-use Rattle.frame_terms.specs.declared.row.Row.{Row}
-use Rattle.frame_laws.proofs.Both.{both_hold}
-use Rattle.frame_laws.proofs.Entries.{AlwaysSuits, Entry, item_of}
+use Rattle.frame_terms.specs.{Keywords.same, Rows.{is_many, is_one}, Tables.Tables, declared.document.Taken.Taken}
+use Rattle.frame_terms.specs.declared.{keyword.Keyword.Keyword, row.Row.Row}
+use Rattle.frame_laws.proofs.{Both.both_hold, Entries.{AlwaysSuits, Entry, item_of}}
 
 -- what a section says by one row of its table: the items that are written of it, in their order
 pub record RowSays (K V : Type 0) : Type 0 where

@@ -1,22 +1,13 @@
 -- A section as it is written row by row, and what its table says of it.
 use Rattle.std.proofs.Common.{◌≡◌, ℕ, true, false, List, [], ◌∷◌, ◌++◌, Option, None, sym, ap, ◌∙◌, append-nil}
 use Rattle.std.proofs.lemmas.Bool.{and_parts}
-use Rattle.frame_terms.specs.Sections.{lacking_keyword, lacking_but, stands}
-use Rattle.frame_terms.specs.Tables.{Tables}
-use Rattle.frame_terms.specs.declared.document.Group.{Group}
-use Rattle.frame_terms.specs.declared.document.Taken.{Taken}
-use Rattle.frame_terms.specs.declared.row.Row.{Row}
-use Rattle.frame_laws.proofs.Both.{both_hold}
-use Rattle.frame_laws.proofs.Entries.{Entry, after_one, all_taken, taken_at}
-use Rattle.frame_laws.proofs.Limits.{FitsIn, limit_inside}
-use Rattle.frame_laws.proofs.MoreRows.{none_after, none_before, rows_more}
-use Rattle.frame_laws.proofs.Places.{after_all}
+use Rattle.frame_terms.specs.{Sections.{lacking_keyword, lacking_but, stands}, Tables.Tables}
+use Rattle.frame_terms.specs.declared.{document.{Group.Group, Taken.Taken}, row.Row.Row}
+use Rattle.frame_laws.proofs.{Both.both_hold, Entries.{Entry, after_one, all_taken, taken_at}, Limits.FitsIn}
+use Rattle.frame_laws.proofs.{Limits.limit_inside, MoreRows.{none_after, none_before, rows_more}, Places.after_all}
 use Rattle.frame_laws.proofs.ReadRows.{AreRead, Each, IsTaken, Stand, are_read, each_taken, none_but_last, none_lacks}
-use Rattle.frame_laws.proofs.ReadRows.{none_of_rows}
-use Rattle.frame_laws.proofs.RowCounts.{counted_once}
-use Rattle.frame_laws.proofs.SaidRows.{AreCounted, AreSaid, RowSays, are_apart, counted, entries_of, lack, row_once}
-use Rattle.frame_laws.proofs.SaidRows.{rows_of}
-use Rattle.frame_laws.proofs.Reading.{AreMore}
+use Rattle.frame_laws.proofs.{ReadRows.none_of_rows, RowCounts.counted_once, SaidRows.{AreCounted, AreSaid, RowSays}}
+use Rattle.frame_laws.proofs.{SaidRows.{are_apart, counted, entries_of, lack, row_once, rows_of}, Reading.AreMore}
 use Rattle.frame_laws.proofs.TableRows.{apart_front, are_plain, lack_last, middle_in_table}
 
 -- a section as it is written: its first item with its row, and the rows of those that open nothing and end nothing

@@ -1,16 +1,13 @@
 -- The texts and the objects of items that stand in place in a document's bytes.
 use Rattle.std.proofs.Common.{◌≡◌, ℕ, ◌+◌, ◌-◌, ◌≤◌, List, [], ◌++◌, length, take, drop, Option, Some, None, refl, sym}
-use Rattle.std.proofs.Common.{ap, ◌∙◌, append_assoc, arith}
-use Rattle.std.specs.Prelude.{IfSome, unwrap_or}
-use Rattle.std.proofs.lemmas.List.{drop-drop, drop_at, take_at, take-append-drop}
+use Rattle.std.proofs.{Common.{ap, ◌∙◌, append_assoc, arith}, lemmas.List.{drop-drop, drop_at, take_at}}
+use Rattle.std.{proofs.lemmas.List.take-append-drop, specs.Prelude.{IfSome, unwrap_or}}
 use Rattle.base64.specs.GeneralPurpose.{IsBytes}
 use Rattle.item_terms.specs.Items.{Item, Object}
 use Rattle.dir_bytes.specs.Causes.{last_moment}
 use Rattle.grammar_laws.proofs.WrittenBytes.{decoded-body_text}
-use Rattle.dirdoc_grammar.specs.Bodies.{body_text, decoded_bytes}
-use Rattle.dirdoc_grammar.specs.InPlace.{InPlace}
-use Rattle.frame_values.specs.Fields.{span}
-use Rattle.frame_values.specs.Parts.{bytes_in, moment_of, part}
+use Rattle.dirdoc_grammar.specs.{Bodies.{body_text, decoded_bytes}, InPlace.InPlace}
+use Rattle.frame_values.specs.{Fields.span, Parts.{bytes_in, moment_of, part}}
 
 -- a text that stands at a place
 pub at_span : (bytes text : List ℕ) (start : ℕ) → take (length text) (drop start bytes) ≡ text

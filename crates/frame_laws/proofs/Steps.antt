@@ -1,32 +1,21 @@
 -- What an item makes of a document that says what a section's table asks for.
 use Rattle.std.proofs.Common.{◌≡◌, ℕ, Bool, true, false, List, [], ◌∷◌, Option, Some, None, Result, Ok, Err, refl, sym}
-use Rattle.std.proofs.Common.{ap, subst, ◌∙◌}
-use Rattle.std.specs.Prelude.{not, ◌&&◌, if◌then◌else◌}
+use Rattle.std.{proofs.Common.{ap, subst, ◌∙◌}, specs.Prelude.{not, ◌&&◌, if◌then◌else◌}}
 use Rattle.item_terms.specs.Items.{Item}
 use Rattle.dirdoc_grammar.specs.Writing.{written}
-use Rattle.frame_terms.specs.Decisions.{beyond_inner, made_by, made_later, unless_fault}
-use Rattle.frame_terms.specs.Order.{first_of, following_sections, inner, is_keyword, opened_by, passed_over}
-use Rattle.frame_terms.specs.Refusals.{refusal_at}
-use Rattle.frame_terms.specs.Rows.{is_many}
-use Rattle.frame_terms.specs.Sections.{accept, lacking_keyword, lacking_but, row_of, stands, taken_as, taken_of}
-use Rattle.frame_terms.specs.Standing.{as_made, begins, begins_again, by_keyword, by_row, elsewhere, ends, enters}
-use Rattle.frame_terms.specs.Standing.{goes_on, in_section, unless}
-use Rattle.frame_terms.specs.Tables.{Tables}
-use Rattle.frame_terms.specs.declared.document.Group.{Group}
-use Rattle.frame_terms.specs.declared.document.Made.{Made}
-use Rattle.frame_terms.specs.declared.document.Made.TheVariants.{Passes, Pushes, Opens, Stops}
-use Rattle.frame_terms.specs.declared.document.Open.{Open}
-use Rattle.frame_terms.specs.declared.document.Taken.{Taken}
-use Rattle.frame_terms.specs.declared.fault.FrameFault.{FrameFault}
-use Rattle.frame_terms.specs.declared.fault.FrameReason.TheVariants.{Twice}
-use Rattle.frame_terms.specs.declared.fault.ReadRefusal.{ReadRefusal}
-use Rattle.frame_terms.specs.declared.keyword.Keyword.{Keyword}
-use Rattle.frame_terms.specs.declared.row.Row.{Row}
+use Rattle.frame_terms.specs.{Decisions.{beyond_inner, made_by, made_later, unless_fault}, Order.first_of}
+use Rattle.frame_terms.specs.Order.{following_sections, inner, is_keyword, opened_by, passed_over}
+use Rattle.frame_terms.specs.{Refusals.refusal_at, Rows.is_many, Sections.{accept, lacking_keyword, lacking_but}}
+use Rattle.frame_terms.specs.{Sections.{row_of, stands, taken_as, taken_of}, Standing.{as_made, begins, begins_again}}
+use Rattle.frame_terms.specs.Standing.{by_keyword, by_row, elsewhere, ends, enters, goes_on, in_section, unless}
+use Rattle.frame_terms.specs.{Tables.Tables, declared.document.{Group.Group, Made.{Made, TheVariants.{Passes, Pushes}}}}
+use Rattle.frame_terms.specs.declared.document.{Made.TheVariants.{Opens, Stops}, Open.Open, Taken.Taken}
+use Rattle.frame_terms.specs.declared.fault.{FrameFault.FrameFault, FrameReason.TheVariants.Twice}
+use Rattle.frame_terms.specs.declared.{fault.ReadRefusal.ReadRefusal, keyword.Keyword.Keyword, row.Row.Row}
 use Rattle.frame_terms.specs.declared.section.Again.{Again}
 use Rattle.frame_terms.specs.declared.section.Again.TheVariants as again
-use Rattle.frame_laws.proofs.Entries.{Entry, Suits, after_one, item_of, taken_at}
-use Rattle.frame_laws.proofs.KnownWords.{known}
-use Rattle.frame_laws.proofs.Limits.{FitsIn, fits, limit_inside}
+use Rattle.frame_laws.proofs.{Entries.{Entry, Suits, after_one, item_of, taken_at}, KnownWords.known, Limits.FitsIn}
+use Rattle.frame_laws.proofs.Limits.{fits, limit_inside}
 
 module _ {S V : Type 0} where
   -- what is open in a section that has these items

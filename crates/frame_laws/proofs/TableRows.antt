@@ -1,21 +1,12 @@
 -- What the tables say of the rows of a section that open nothing and end nothing.
 use Rattle.std.proofs.Common.{◌≡◌, ◌≤◌, length, arith, Bool, true, false, List, [], ◌∷◌, ◌++◌, Option, Some, None, refl}
-use Rattle.std.proofs.Common.{ap, subst, ◌∙◌, append_assoc}
+use Rattle.std.proofs.{Common.{ap, subst, ◌∙◌, append_assoc}, lemmas.Bool.{and_from, and_parts, not-true}}
 use Rattle.std.specs.Prelude.{◌&&◌, ◌||◌, is_none, not, if◌then◌else◌}
-use Rattle.std.proofs.lemmas.Bool.{and_from, and_parts, not-true}
-use Rattle.frame_terms.specs.Keywords.{same}
-use Rattle.frame_terms.specs.Order.{inner, is_keyword, opener}
-use Rattle.frame_terms.specs.Sections.{row_of}
-use Rattle.frame_terms.specs.Tables.{Tables}
-use Rattle.frame_terms.specs.declared.keyword.Keyword.{Keyword}
-use Rattle.frame_terms.specs.declared.row.Row.{Row}
+use Rattle.frame_terms.specs.{Keywords.same, Order.{inner, is_keyword, opener}, Sections.row_of, Tables.Tables}
+use Rattle.frame_terms.specs.declared.{keyword.Keyword.Keyword, row.Row.Row}
 use Rattle.frame_terms.specs.declared.section.Again.TheVariants as again
-use Rattle.frame_laws.proofs.Both.{both_hold}
-use Rattle.frame_laws.proofs.Entries.{Entry}
-use Rattle.frame_laws.proofs.KnownWords.{same-refl, same-sym}
-use Rattle.frame_laws.proofs.MoreRows.{AreInTable}
-use Rattle.frame_laws.proofs.SaidRows.{RowSays, are_apart, lack, rows_of}
-use Rattle.frame_laws.proofs.Steps.{IsInTable}
+use Rattle.frame_laws.proofs.{Both.both_hold, Entries.Entry, KnownWords.{same-refl, same-sym}, MoreRows.AreInTable}
+use Rattle.frame_laws.proofs.{SaidRows.{RowSays, are_apart, lack, rows_of}, Steps.IsInTable}
 
 -- ---- the row of a keyword
 

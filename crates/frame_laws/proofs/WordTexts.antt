@@ -1,21 +1,16 @@
 -- The canonical texts of values are words: bytes without blanks, of which there is one at least.
 use Rattle.std.proofs.Common.{◌≡◌, ℕ, zero, suc, ◌+◌, ◌/◌, ◌%◌, ◌<◌, ◌≤◌, Bool, true, false, cond, List, [], ◌∷◌, ◌++◌}
 use Rattle.std.proofs.Common.{length, take, get_or, refl, sym, ap, ◌∙◌, arith, append_assoc, length-append}
-use Rattle.std.specs.Prelude.{All, map, codes, nat_lt, nat_le, ◌==◌, ◌&&◌}
-use Rattle.std.specs.Fmt.{decimal, digits, digits_onto, digit_glyph}
-use Rattle.std.specs.List.{list_all}
-use Rattle.std.proofs.lemmas.Bool.{and_from, and_parts, false≢true, leb-true}
-use Rattle.std.proofs.lemmas.Bool.Decides.{nat_tests}
-use Rattle.std.proofs.lemmas.List.{take_all}
-use Rattle.std.proofs.lemmas.List.Elements.{All-cons, All-map, All-nil, All-weaker}
-use Rattle.std.proofs.lemmas.List.Folds.{list_all-append}
+use Rattle.std.proofs.lemmas.{Bool.{and_from, and_parts, false≢true, leb-true, Decides.nat_tests}, List.take_all}
+use Rattle.std.proofs.lemmas.List.{Elements.{All-cons, All-map, All-nil, All-weaker}, Folds.list_all-append}
+use Rattle.std.specs.{Prelude.{All, map, codes, nat_lt, nat_le, ◌==◌, ◌&&◌}, Fmt.{decimal, digits, digits_onto}}
+use Rattle.std.specs.{Fmt.digit_glyph, List.list_all}
 use Rattle.base64.specs.GeneralPurpose.{IsBytes}
 use Rattle.item_terms.specs.Words.{is_letter_or_digit}
 use Rattle.dir_bytes.specs.FieldTexts.{date_of, two_digits, date_text, clock_text, hex_text, address_text}
 use Rattle.dir_bytes.proofs.Spelling.{hex_text-nil, hex_text_more, length-hex_text}
-use Rattle.dir_values.specs.FlagSets.{is_name, is_name_byte}
+use Rattle.dir_values.specs.{FlagSets.{is_name, is_name_byte}, Names.is_nickname}
 use Rattle.dirdoc_grammar.specs.Writers.{is_argument, is_argument_byte}
-use Rattle.dir_values.specs.Names.{is_nickname}
 
 -- ---- bytes
 

@@ -1,12 +1,9 @@
 -- The canonical texts of values are words, and words with single spaces between them are read as arguments.
 use Rattle.std.proofs.Common.{◌≡◌, ℕ, suc, ◌+◌, true, false, List, [], ◌∷◌, ◌++◌, length, refl, sym, ap, ◌∙◌, arith}
-use Rattle.std.specs.Prelude.{map, not, ◌==◌}
-use Rattle.std.specs.List.{list_all, join_with_byte}
-use Rattle.std.proofs.lemmas.Bool.{and_parts, false≢true, not-true}
-use Rattle.std.proofs.lemmas.List.Elements.{All-head, All-tail}
+use Rattle.std.proofs.lemmas.{Bool.{and_parts, false≢true, not-true}, List.Elements.{All-head, All-tail}}
+use Rattle.std.specs.{Prelude.{map, not, ◌==◌}, List.{list_all, join_with_byte}}
 use Rattle.item_terms.specs.Words.{is_blank, words_of}
-use Rattle.dir_values.proofs.ArgumentWords.{arguments_words}
-use Rattle.dir_values.specs.Arguments.{texts_of, Argument, arguments_at, onto}
+use Rattle.dir_values.{proofs.ArgumentWords.arguments_words, specs.Arguments.{texts_of, Argument, arguments_at, onto}}
 use Rattle.dirdoc_grammar.specs.Writers.{is_argument, is_argument_byte}
 use Rattle.frame_laws.proofs.WordTexts.{all_three}
 pub use Rattle.frame_laws.proofs.WordTexts.{AreWords, IsWord, length-word, two_words, word_of_address, word_of_clock}

@@ -1,31 +1,18 @@
 -- What an item says that was written and is read again: the value that it was written for.
 use Rattle.std.proofs.Common.{◌≡◌, ℕ, ◌+◌, ◌*◌, ◌/◌, ◌%◌, ◌<◌, ◌≤◌, true, List, [], ◌∷◌, ◌++◌, length, Some, Ok, refl}
-use Rattle.std.proofs.Common.{ap, subst, ◌∙◌, arith}
-use Rattle.std.specs.Prelude.{option_map, slice_get}
+use Rattle.std.{proofs.Common.{ap, subst, ◌∙◌, arith}, specs.{Prelude.{option_map, slice_get}, Str.bytes_eq}}
 use Rattle.base64.specs.GeneralPurpose.{IsBytes}
-use Rattle.item_terms.specs.Items.{Item}
-use Rattle.item_terms.specs.Words.{argument_start}
-use Rattle.dir_bytes.specs.Causes.{last_moment}
-use Rattle.dir_bytes.specs.FieldTexts.{clock_text, date_text, hex_text, moment_text}
-use Rattle.dir_bytes.specs.Fields.{date, hex, time_of_day}
-use Rattle.dir_bytes.proofs.ReadAgain.{date-date_text, hex-hex_text, time_of_day-clock_text}
-use Rattle.dir_values.specs.declared.digest.Digest1.{Digest1}
-use Rattle.dir_values.specs.declared.digest.Fingerprint.{Fingerprint}
-use Rattle.dirdoc_grammar.specs.Bodies.{begin_line, body_text}
-use Rattle.dirdoc_grammar.specs.Writers.{is_argument}
-use Rattle.dirdoc_grammar.specs.Writing.{tail, written}
-use Rattle.frame_terms.specs.Keywords.{text_of}
-use Rattle.frame_terms.specs.declared.keyword.Keyword.{Keyword}
-use Rattle.dir_values.specs.Arguments.{Argument}
-use Rattle.frame_values.specs.Arguments.{arguments_of}
+use Rattle.item_terms.specs.{Items.Item, Words.argument_start}
+use Rattle.dir_bytes.specs.{Causes.last_moment, FieldTexts.{clock_text, date_text, hex_text, moment_text}, Fields.date}
+use Rattle.dir_bytes.{specs.Fields.{hex, time_of_day}, proofs.ReadAgain.{date-date_text, hex-hex_text}}
+use Rattle.dir_bytes.proofs.ReadAgain.{time_of_day-clock_text}
+use Rattle.dir_values.specs.{declared.digest.{Digest1.Digest1, Fingerprint.Fingerprint}, Arguments.Argument}
 use Rattle.dir_values.specs.Digests.{fingerprint, key_digest}
-use Rattle.std.specs.Str.{bytes_eq}
-use Rattle.frame_values.specs.Fields.{is_there, span, span_of}
-use Rattle.frame_values.specs.Lines.{argument_of, fingerprint_of, literal, time_of}
-use Rattle.frame_values.specs.Signatures.{is_space}
-use Rattle.frame_values.specs.declared.found.Span.{Span}
-use Rattle.frame_values.specs.Items.{bare, moment_item}
-use Rattle.frame_values.specs.Parts.{moment_of}
+use Rattle.dirdoc_grammar.specs.{Bodies.{begin_line, body_text}, Writers.is_argument, Writing.{tail, written}}
+use Rattle.frame_terms.specs.{Keywords.text_of, declared.keyword.Keyword.Keyword}
+use Rattle.frame_values.specs.{Arguments.arguments_of, Fields.{is_there, span, span_of}, Lines.argument_of}
+use Rattle.frame_values.specs.{Lines.{fingerprint_of, literal, time_of}, Signatures.is_space, declared.found.Span.Span}
+use Rattle.frame_values.specs.{Items.{bare, moment_item}, Parts.moment_of}
 use Rattle.frame_laws.proofs.Words.{arguments_of_word, arguments_of_words, two_words, word_of_clock, word_of_date}
 use Rattle.frame_laws.proofs.Words.{word_of_identity}
 

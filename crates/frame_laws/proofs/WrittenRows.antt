@@ -1,11 +1,10 @@
 -- The text of items that are written row by row, and where it ends.
-use Rattle.std.proofs.Common.{◌≡◌, ℕ, ◌+◌, ◌-◌, false, List, [], ◌∷◌, ◌++◌, length, take, drop, refl, ap, subst, ◌∙◌, arith}
-use Rattle.std.specs.Prelude.{◌&&◌, map, slice_range}
+use Rattle.std.proofs.Common.{◌≡◌, ℕ, ◌+◌, ◌-◌, false, List, [], ◌∷◌, ◌++◌, length, take, drop, refl, ap, subst, ◌∙◌}
+use Rattle.std.{proofs.Common.arith, specs.Prelude.{◌&&◌, map, slice_range}}
 use Rattle.item_terms.specs.Words.{begins_dash}
 use Rattle.dirdoc_grammar.specs.Writing.{AreWritable, is_open, items_text, lacks_object}
-use Rattle.frame_laws.proofs.Entries.{Entry, item_of}
-use Rattle.frame_laws.proofs.Places.{after_all, after_all-same, written_behind, written_in_place}
-use Rattle.frame_laws.proofs.ReadRows.{Stand}
+use Rattle.frame_laws.proofs.{Entries.{Entry, item_of}, Places.{after_all, after_all-same, written_behind}}
+use Rattle.frame_laws.proofs.{Places.written_in_place, ReadRows.Stand}
 
 module _ {V : Type 0} where
   -- the text of items

@@ -1,8 +1,6 @@
 -- What is kept where a section ends.
 use Rattle.std.proofs.Common.{◌≡◌, List, Result, Ok, Err, refl}
-use Rattle.frame_terms.specs.declared.document.Group.{Group}
-use Rattle.frame_terms.specs.declared.document.Taken.{Taken}
-use Rattle.frame_terms.specs.declared.fault.ReadRefusal.{ReadRefusal}
+use Rattle.frame_terms.specs.declared.{document.{Group.Group, Taken.Taken}, fault.ReadRefusal.ReadRefusal}
 use Rattle.frame_terms.specs.Documents.{Document, onto, finish}
 
 pub closes : {S V F : Type 0} (with_ : F → S → List (Taken V) → F) (facts : F) (group : Group S V)

@@ -1,4 +1,3 @@
 pub mod Closing
-pub mod Arrivals
 pub mod Stepping
 pub mod Within

@@ -1,21 +1,11 @@
 -- What an item makes that is taken by its row.
 use Rattle.std.proofs.Common.{◌≡◌, ◌∙◌, ℕ, List, ◌∷◌, Option, Some, None, Result, Ok, Err, refl, ap}
-use Rattle.item_terms.specs.Items.{Item}
-use Rattle.item_terms.specs.declared.fault.DocFault.{DocFault}
-use Rattle.frame_terms.specs.declared.document.Group.{Group}
-use Rattle.frame_terms.specs.declared.document.Made.{Made}
-use Rattle.frame_terms.specs.declared.document.Made.TheVariants.{Ends, Leaves}
-use Rattle.frame_terms.specs.declared.document.Open.{Open}
-use Rattle.frame_terms.specs.declared.document.Taken.{Taken}
-use Rattle.frame_terms.specs.declared.fault.ReadRefusal.{ReadRefusal}
-use Rattle.frame_terms.specs.declared.fault.ReadRefusal.TheVariants.{Frame, Memory}
-use Rattle.frame_terms.specs.declared.row.Row.{Row}
-use Rattle.frame_terms.specs.Decisions.{made_by}
-use Rattle.frame_terms.specs.Documents.{Document, after_made, read_items, finish}
-use Rattle.frame_terms.specs.Refusals.{Fails}
-use Rattle.frame_terms.specs.Sections.{accept}
-use Rattle.frame_terms.specs.Standing.{as_made, ends}
-use Rattle.frame_terms.specs.Tables.{Tables}
+use Rattle.item_terms.specs.{Items.Item, declared.fault.DocFault.DocFault}
+use Rattle.frame_terms.specs.declared.document.{Group.Group, Made.{Made, TheVariants.{Ends, Leaves}}, Open.Open}
+use Rattle.frame_terms.specs.declared.{document.Taken.Taken, fault.ReadRefusal.{ReadRefusal, TheVariants.Frame}}
+use Rattle.frame_terms.specs.{declared.{fault.ReadRefusal.TheVariants.Memory, row.Row.Row}, Decisions.made_by}
+use Rattle.frame_terms.specs.{Documents.{Document, after_made, read_items, finish}, Refusals.Fails, Sections.accept}
+use Rattle.frame_terms.specs.{Standing.{as_made, ends}, Tables.Tables}
 use Rattle.frame_reader.specs.Steps.{last_step, made_of}
 
 makes_alike : {S V : Type 0} (one other : Taken V → Made S V) (read : Result (Taken V) ReadRefusal)

@@ -1,22 +1,13 @@
 -- A document ends within the input that its items are read from.
 use Rattle.std.proofs.Common.{◌≡◌, ℕ, ◌≤◌, List, [], ◌∷◌, length, Option, Some, None, Result, Ok, Err, ap, arith}
-use Rattle.item_terms.specs.Items.{Item, Contents, items_from}
-use Rattle.item_terms.specs.declared.fault.DocFault.{DocFault}
-use Rattle.dirdoc_grammar.specs.InPlace.{EachInPlace}
-use Rattle.dirdoc_grammar.proofs.Places.{stand_in_place}
-use Rattle.frame_terms.specs.declared.document.Group.{Group}
-use Rattle.frame_terms.specs.declared.document.Made.{Made}
-use Rattle.frame_terms.specs.declared.document.Made.TheVariants.{Passes, Pushes, Opens, Enters, Leaves, Ends, Stops}
-use Rattle.frame_terms.specs.declared.document.Open.{Open}
-use Rattle.frame_terms.specs.declared.document.Taken.{Taken}
-use Rattle.frame_terms.specs.declared.fault.FrameFault.{FrameFault}
-use Rattle.frame_terms.specs.declared.fault.ReadRefusal.{ReadRefusal}
-use Rattle.frame_terms.specs.declared.keyword.Keyword.{Keyword}
-use Rattle.frame_terms.specs.Decisions.{made_by}
-use Rattle.frame_terms.specs.Documents.{Document, closed_at, at_end, missing_at_end, with_next, with_inner, with_one}
-use Rattle.frame_terms.specs.Documents.{without_inner, onto, go_on, note_of_made, after_noted, after_made, read_items}
-use Rattle.frame_terms.specs.Documents.{start, document_of, finish, Folds}
-use Rattle.frame_terms.specs.Tables.{Tables}
+use Rattle.item_terms.specs.{Items.{Item, Contents, items_from}, declared.fault.DocFault.DocFault}
+use Rattle.dirdoc_grammar.{specs.InPlace.EachInPlace, proofs.Places.stand_in_place}
+use Rattle.frame_terms.specs.declared.document.{Group.Group, Made.{Made, TheVariants.{Passes, Pushes, Opens, Enters}}}
+use Rattle.frame_terms.specs.declared.document.{Made.TheVariants.{Leaves, Ends, Stops}, Open.Open, Taken.Taken}
+use Rattle.frame_terms.specs.declared.{fault.{FrameFault.FrameFault, ReadRefusal.ReadRefusal}, keyword.Keyword.Keyword}
+use Rattle.frame_terms.specs.{Decisions.made_by, Documents.{Document, closed_at, at_end, missing_at_end, with_next}}
+use Rattle.frame_terms.specs.Documents.{with_inner, with_one, without_inner, onto, go_on, note_of_made, after_noted}
+use Rattle.frame_terms.specs.{Documents.{after_made, read_items, start, document_of, finish, Folds}, Tables.Tables}
 use Rattle.frame_reader.specs.Reading.{EndsWithin}
 
 -- the document ends before this place

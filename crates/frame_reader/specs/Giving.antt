@@ -1,9 +1,7 @@
 -- What a call answers that may want memory, by what it is to answer.
 use Rattle.std.specs.Prelude.{◌≡◌, Result, Ok, Err}
-use Rattle.frame_terms.specs.declared.fault.FrameFault.{FrameFault}
-use Rattle.frame_terms.specs.declared.fault.ReadRefusal.{ReadRefusal}
-use Rattle.frame_terms.specs.declared.fault.ReadRefusal.TheVariants.{Frame, Memory}
-use Rattle.frame_terms.specs.Refusals.{Fails}
+use Rattle.frame_terms.specs.declared.fault.{FrameFault.FrameFault, ReadRefusal.{ReadRefusal, TheVariants.Frame}}
+use Rattle.frame_terms.specs.{declared.fault.ReadRefusal.TheVariants.Memory, Refusals.Fails}
 
 module _ {V : Type 0} where
   -- exactly this value or this fault, unless memory ran out

@@ -1,17 +1,11 @@
 -- How an item is to be taken into a document, and what it makes once it is read.
 use Rattle.std.specs.Prelude.{◌≡◌, List, [], Option, Some, None, Result, Ok, Err}
 use Rattle.item_terms.specs.Items.{Item}
-use Rattle.frame_terms.specs.declared.document.Group.{Group}
-use Rattle.frame_terms.specs.declared.document.Made.{Made}
+use Rattle.frame_terms.specs.declared.{document.{Group.Group, Made.Made, Taken.Taken}, fault.ReadRefusal.ReadRefusal}
+use Rattle.frame_terms.specs.{declared.row.Row.Row, Sections.accept, Standing.as_made, Tables.Tables}
 use Rattle.frame_terms.specs.declared.document.Made.TheVariants as made
-use Rattle.frame_terms.specs.declared.document.Taken.{Taken}
-use Rattle.frame_terms.specs.declared.fault.ReadRefusal.{ReadRefusal}
-use Rattle.frame_terms.specs.declared.row.Row.{Row}
-use Rattle.frame_terms.specs.Sections.{accept}
-use Rattle.frame_terms.specs.Standing.{as_made}
-use Rattle.frame_terms.specs.Tables.{Tables}
-use Rattle.frame_reader.specs.declared.step.Step.{Step}
-use Rattle.frame_reader.specs.declared.step.Step.TheVariants.{Passes, Pushes, Opens, Enters, Leaves, Ends, Stops}
+use Rattle.frame_reader.specs.declared.step.Step.{Step, TheVariants.{Passes, Pushes, Opens, Enters, Leaves, Ends}}
+use Rattle.frame_reader.specs.declared.step.Step.TheVariants.{Stops}
 
 module _ {S K V : Type 0} where
   -- the last item of a section, by whether there is one around it

@@ -1,16 +1,9 @@
 -- How what is remembered, open and kept of a document changes with an item.
 use Rattle.std.specs.Prelude.{◌≡◌, ℕ, List, ◌∷◌, Option, Some, None, Result, Ok, Err}
-use Rattle.item_terms.specs.Items.{Item}
-use Rattle.item_terms.specs.declared.fault.DocFault.{DocFault}
-use Rattle.frame_terms.specs.declared.document.Made.{Made}
-use Rattle.frame_terms.specs.declared.document.Open.{Open}
-use Rattle.frame_terms.specs.declared.document.Taken.{Taken}
-use Rattle.frame_terms.specs.declared.fault.ReadRefusal.{ReadRefusal}
-use Rattle.frame_terms.specs.declared.row.Row.{Row}
-use Rattle.frame_terms.specs.Documents.{Document, after_made, at_end, read_items, finish}
-use Rattle.frame_terms.specs.Refusals.{Fails}
-use Rattle.frame_terms.specs.Sections.{accept}
-use Rattle.frame_terms.specs.Tables.{Tables}
+use Rattle.item_terms.specs.{Items.Item, declared.fault.DocFault.DocFault}
+use Rattle.frame_terms.specs.declared.{document.{Made.Made, Open.Open, Taken.Taken}, fault.ReadRefusal.ReadRefusal}
+use Rattle.frame_terms.specs.{declared.row.Row.Row, Documents.{Document, after_made, at_end, read_items, finish}}
+use Rattle.frame_terms.specs.{Refusals.Fails, Sections.accept, Tables.Tables}
 use Rattle.frame_reader.specs.Giving.{given_result}
 
 module _ {S K V X : Type 0} where

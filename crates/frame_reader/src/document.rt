@@ -1,8 +1,7 @@
 // Documents, as they are read item by item.
 ghost use Rattle.std.specs.Prelude.{◌≡◌, List, OnOk};
 ghost use Rattle.frame_terms.specs.Documents as documents;
-ghost use Rattle.frame_terms.specs.Documents.{Folds};
-ghost use Rattle.frame_terms.specs.declared.document.Taken.{Taken};
+ghost use Rattle.frame_terms.specs.{Documents.Folds, declared.document.Taken.Taken};
 ghost use Rattle.frame_reader.specs.Reading.{EndsWithin};
 
 use crate::frame::Frame;

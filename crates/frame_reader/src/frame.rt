@@ -1,8 +1,7 @@
 // What a kind of document has: its sections, the tables of their items, and what the items say.
 ghost use Rattle.std.specs.Prelude.{◌≡◌};
 ghost use Rattle.dirdoc_grammar.specs.Seen.{seen_item, IsInside};
-ghost use Rattle.frame_terms.specs.Refusals.{Becomes};
-ghost use Rattle.frame_terms.specs.Tables.{Tables};
+ghost use Rattle.frame_terms.specs.{Refusals.Becomes, Tables.Tables};
 ghost use Rattle.frame_reader.specs.Giving as giving;
 ghost use Rattle.frame_reader.specs.Giving.{Gives};
 

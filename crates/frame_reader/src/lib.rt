@@ -1,7 +1,6 @@
 //! Documents are read by the tables of their kinds (dir-spec). No kind is known here.
 #![tactic(auto)]
 
-mod arriving;
 mod decision;
 mod document;
 mod frame;
@@ -12,7 +11,6 @@ mod standing;
 mod step;
 mod turning;
 
-pub use arriving::{Reached, feed_on, read_on};
 pub use decision::{first_fault, step_by};
 pub use document::{Facts, read_document};
 pub use frame::{Frame, given};

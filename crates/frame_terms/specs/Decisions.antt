@@ -4,24 +4,12 @@
 use Rattle.std.specs.Prelude.{ℕ, ◌+◌, ◌-◌, nat_lt, List, [], ◌∷◌, Option, Some, None, Result, Ok, Err, if◌then◌else◌}
 use Rattle.std.specs.Option.{option_map}
 use Rattle.item_terms.specs.Items.{Item}
-use Rattle.frame_terms.specs.declared.document.Group.{Group}
-use Rattle.frame_terms.specs.declared.document.Made.{Made}
-use Rattle.frame_terms.specs.declared.document.Made.TheVariants.{Passes, Pushes}
-use Rattle.frame_terms.specs.declared.document.Open.{Open}
-use Rattle.frame_terms.specs.declared.document.Taken.{Taken}
-use Rattle.frame_terms.specs.declared.fault.FrameFault.{FrameFault}
-use Rattle.frame_terms.specs.declared.fault.FrameReason.{FrameReason}
-use Rattle.frame_terms.specs.declared.fault.FrameReason.TheVariants.{Missing, TooMany}
-use Rattle.frame_terms.specs.declared.fault.ReadRefusal.{ReadRefusal}
-use Rattle.frame_terms.specs.declared.fault.ReadRefusal.TheVariants.{Frame}
-use Rattle.frame_terms.specs.declared.keyword.Keyword.{Keyword}
-use Rattle.frame_terms.specs.declared.row.Limit.{Limit}
-use Rattle.frame_terms.specs.Keywords.{word_of}
-use Rattle.frame_terms.specs.Order.{opener, begins_document, inner}
-use Rattle.frame_terms.specs.Refusals.{refusal_at}
-use Rattle.frame_terms.specs.Rows.{limit_number}
-use Rattle.frame_terms.specs.Sections.{row_of, stands}
-use Rattle.frame_terms.specs.Standing.{begins, by_keyword}
+use Rattle.frame_terms.specs.declared.document.{Group.Group, Made.{Made, TheVariants.{Passes, Pushes}}, Open.Open}
+use Rattle.frame_terms.specs.declared.{document.Taken.Taken, fault.{FrameFault.FrameFault, FrameReason.FrameReason}}
+use Rattle.frame_terms.specs.declared.fault.{FrameReason.TheVariants.{Missing, TooMany}, ReadRefusal.ReadRefusal}
+use Rattle.frame_terms.specs.declared.{fault.ReadRefusal.TheVariants.Frame, keyword.Keyword.Keyword, row.Limit.Limit}
+use Rattle.frame_terms.specs.{Keywords.word_of, Order.{opener, begins_document, inner}, Refusals.refusal_at}
+use Rattle.frame_terms.specs.{Rows.limit_number, Sections.{row_of, stands}, Standing.{begins, by_keyword}}
 use Rattle.frame_terms.specs.Tables.{Tables}
 
 -- ---- what is refused wherever it stands

@@ -1,23 +1,12 @@
 -- A document of given tables: its sections with their items, and the first fault.
-use Rattle.std.specs.Prelude.{◌≡◌, ℕ, List, [], ◌∷◌, ◌++◌, Option, Some, None, Result, Ok, Err}
-use Rattle.std.specs.List.{fold}
-use Rattle.item_terms.specs.Items.{Item, Contents}
-use Rattle.item_terms.specs.declared.fault.DocFault.{DocFault}
-use Rattle.frame_terms.specs.declared.document.Group.{Group}
-use Rattle.frame_terms.specs.declared.document.Made.{Made}
-use Rattle.frame_terms.specs.declared.document.Made.TheVariants.{Passes, Pushes, Opens, Enters, Leaves, Ends, Stops}
-use Rattle.frame_terms.specs.declared.document.Open.{Open}
-use Rattle.frame_terms.specs.declared.document.Taken.{Taken}
-use Rattle.frame_terms.specs.declared.fault.FrameFault.{FrameFault}
-use Rattle.frame_terms.specs.declared.fault.FrameReason.TheVariants.{Missing}
-use Rattle.frame_terms.specs.declared.fault.ReadRefusal.{ReadRefusal}
-use Rattle.frame_terms.specs.declared.fault.ReadRefusal.TheVariants.{Frame}
-use Rattle.frame_terms.specs.declared.keyword.Keyword.{Keyword}
-use Rattle.frame_terms.specs.Decisions.{made_by}
-use Rattle.frame_terms.specs.Order.{following_sections, first_of, must_open}
-use Rattle.frame_terms.specs.Refusals.{refusal_at, of_doc, Fails}
-use Rattle.frame_terms.specs.Sections.{lacking_keyword}
-use Rattle.frame_terms.specs.Tables.{Tables}
+use Rattle.std.specs.{Prelude.{◌≡◌, ℕ, List, [], ◌∷◌, ◌++◌, Option, Some, None, Result, Ok, Err}, List.fold}
+use Rattle.item_terms.specs.{Items.{Item, Contents}, declared.fault.DocFault.DocFault}
+use Rattle.frame_terms.specs.declared.document.{Group.Group, Made.{Made, TheVariants.{Passes, Pushes, Opens, Enters}}}
+use Rattle.frame_terms.specs.declared.document.{Made.TheVariants.{Leaves, Ends, Stops}, Open.Open, Taken.Taken}
+use Rattle.frame_terms.specs.declared.fault.{FrameFault.FrameFault, FrameReason.TheVariants.Missing}
+use Rattle.frame_terms.specs.declared.{fault.ReadRefusal.{ReadRefusal, TheVariants.Frame}, keyword.Keyword.Keyword}
+use Rattle.frame_terms.specs.{Decisions.made_by, Order.{following_sections, first_of, must_open}, Refusals.refusal_at}
+use Rattle.frame_terms.specs.{Refusals.{of_doc, Fails}, Sections.lacking_keyword, Tables.Tables}
 
 -- the sections in order of their ends, and the place after the document
 pub record Document (S V : Type 0) : Type 0 where

@@ -1,8 +1,8 @@
 -- The keywords of all kinds of documents, and their texts (dir-spec).
-use Rattle.std.specs.Prelude.{ℕ, List, [], ◌∷◌, Option, codes, nat_eq, Bool}
-use Rattle.std.specs.List.{find}
+use Rattle.std.specs.{Prelude.{ℕ, List, [], ◌∷◌, Option, codes, nat_eq, Bool}, List.find}
 use lib.Pointwise.{pointwise}
-use Rattle.frame_terms.specs.declared.keyword.Keyword.{Keyword}
+use denote.Enum.Bare.{sameb}
+use Rattle.frame_terms.specs.{contracts.keyword.Keyword.the_type, declared.keyword.Keyword.Keyword}
 use Rattle.frame_terms.specs.declared.keyword.Keyword.TheVariants as the
 
 -- the text of a keyword
@@ -83,84 +83,6 @@ text_of the.Measured = codes "measured"
 text_of the.EndStation = codes "end-station"
 text_of the.FamilyIds = codes "family-ids"
 
--- its number in the enum
-abbrev pub number_of : Keyword → ℕ
-number_of the.R = 0
-number_of the.A = 1
-number_of the.S = 2
-number_of the.V = 3
-number_of the.Pr = 4
-number_of the.W = 5
-number_of the.P = 6
-number_of the.M = 7
-number_of the.Id = 8
-number_of the.NetworkStatusVersion = 9
-number_of the.VoteStatus = 10
-number_of the.ConsensusMethods = 11
-number_of the.ConsensusMethod = 12
-number_of the.Published = 13
-number_of the.ValidAfter = 14
-number_of the.FreshUntil = 15
-number_of the.ValidUntil = 16
-number_of the.VotingDelay = 17
-number_of the.ClientVersions = 18
-number_of the.ServerVersions = 19
-number_of the.KnownFlags = 20
-number_of the.FlagThresholds = 21
-number_of the.RecommendedClientProtocols = 22
-number_of the.RecommendedRelayProtocols = 23
-number_of the.RequiredClientProtocols = 24
-number_of the.RequiredRelayProtocols = 25
-number_of the.Params = 26
-number_of the.SharedRandPreviousValue = 27
-number_of the.SharedRandCurrentValue = 28
-number_of the.DirSource = 29
-number_of the.Contact = 30
-number_of the.VoteDigest = 31
-number_of the.DirectoryFooter = 32
-number_of the.BandwidthWeights = 33
-number_of the.DirectorySignature = 34
-number_of the.DirKeyCertificateVersion = 35
-number_of the.DirAddress = 36
-number_of the.Fingerprint = 37
-number_of the.DirIdentityKey = 38
-number_of the.DirKeyPublished = 39
-number_of the.DirKeyExpires = 40
-number_of the.DirSigningKey = 41
-number_of the.DirKeyCrosscert = 42
-number_of the.DirKeyCertification = 43
-number_of the.ConsensusDigest = 44
-number_of the.AdditionalDigest = 45
-number_of the.AdditionalSignature = 46
-number_of the.Router = 47
-number_of the.IdentityEd25519 = 48
-number_of the.MasterKeyEd25519 = 49
-number_of the.Platform = 50
-number_of the.Uptime = 51
-number_of the.Bandwidth = 52
-number_of the.Hibernating = 53
-number_of the.OnionKey = 54
-number_of the.SigningKey = 55
-number_of the.NtorOnionKey = 56
-number_of the.Accept = 57
-number_of the.Reject = 58
-number_of the.Ipv6Policy = 59
-number_of the.Family = 60
-number_of the.OrAddress = 61
-number_of the.TunnelledDirServer = 62
-number_of the.Proto = 63
-number_of the.RouterSigEd25519 = 64
-number_of the.RouterSignature = 65
-number_of the.P6 = 66
-number_of the.Station = 67
-number_of the.Own = 68
-number_of the.Schedule = 69
-number_of the.Authority = 70
-number_of the.Rule = 71
-number_of the.Measured = 72
-number_of the.EndStation = 73
-number_of the.FamilyIds = 74
-
 -- all of them
 abbrev pub known_keywords : List Keyword
 known_keywords =
@@ -192,4 +114,4 @@ word_of text = among text known_keywords
 
 -- whether two keywords are one
 unfoldable pub same : Keyword → Keyword → Bool
-same a b = nat_eq (number_of a) (number_of b)
+same = sameb the_type

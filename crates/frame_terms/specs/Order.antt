@@ -1,13 +1,8 @@
 -- Where a keyword belongs: in which section of a document, and which sections follow it.
 use Rattle.std.specs.Prelude.{ℕ, ◌+◌, drop, Bool, true, false, not, ◌||◌, List, [], ◌∷◌, Option, Some, None}
-use Rattle.std.specs.Prelude.{if◌then◌else◌}
-use Rattle.std.specs.List.{find, list_any, prefix_len}
-use Rattle.frame_terms.specs.declared.keyword.Keyword.{Keyword}
-use Rattle.frame_terms.specs.declared.row.Row.{Row}
-use Rattle.frame_terms.specs.declared.section.Again.{Again}
-use Rattle.frame_terms.specs.declared.section.Again.TheVariants.{Nothing, Section, Document}
-use Rattle.frame_terms.specs.Keywords.{same}
-use Rattle.frame_terms.specs.Tables.{Tables}
+use Rattle.std.specs.{Prelude.if◌then◌else◌, List.{find, list_any, prefix_len}}
+use Rattle.frame_terms.specs.declared.{keyword.Keyword.Keyword, row.Row.Row, section.Again.{Again, TheVariants.Nothing}}
+use Rattle.frame_terms.specs.{declared.section.Again.TheVariants.{Section, Document}, Keywords.same, Tables.Tables}
 
 -- whether this is the keyword, where there is one
 abbrev pub is_keyword : Option Keyword → Keyword → Bool

@@ -1,11 +1,8 @@
 -- The rows of the tables: how often an item stands, and the limits that they name.
 use Rattle.std.specs.Prelude.{ℕ, Bool, true, false, List, codes}
-use Rattle.frame_terms.specs.declared.keyword.Keyword.{Keyword}
-use Rattle.frame_terms.specs.declared.row.Count.{Count}
-use Rattle.frame_terms.specs.declared.row.Count.TheVariants.{One, Optional, Many}
-use Rattle.frame_terms.specs.declared.row.Limit.{Limit}
-use Rattle.frame_terms.specs.declared.row.Limit.TheVariants.{KnownFlags, Methods, Certificate, Votes, Entries, Params}
-use Rattle.frame_terms.specs.declared.row.Row.{Row}
+use Rattle.frame_terms.specs.declared.{keyword.Keyword.Keyword, row.Count.{Count, TheVariants.{One, Optional, Many}}}
+use Rattle.frame_terms.specs.declared.row.Limit.{Limit, TheVariants.{KnownFlags, Methods, Certificate, Votes, Entries}}
+use Rattle.frame_terms.specs.declared.row.{Limit.TheVariants.Params, Row.Row}
 
 module _ {K : Type 0} where
   -- an item of a section: its keyword, how often it stands, and what it says

@@ -2,17 +2,10 @@
 use Rattle.std.specs.Prelude.{◌+◌, Bool, not, ◌&&◌, List, length, Option, Some, None, Result, Ok, Err, if◌then◌else◌}
 use Rattle.std.specs.List.{find, list_any}
 use Rattle.item_terms.specs.Items.{Item}
-use Rattle.frame_terms.specs.declared.document.Taken.{Taken}
-use Rattle.frame_terms.specs.declared.fault.FrameFault.{FrameFault}
-use Rattle.frame_terms.specs.declared.fault.FrameReason.TheVariants.{Twice}
-use Rattle.frame_terms.specs.declared.fault.ReadRefusal.{ReadRefusal}
-use Rattle.frame_terms.specs.declared.fault.ReadRefusal.TheVariants.{Frame}
-use Rattle.frame_terms.specs.declared.keyword.Keyword.{Keyword}
-use Rattle.frame_terms.specs.declared.row.Row.{Row}
-use Rattle.frame_terms.specs.Keywords.{same}
-use Rattle.frame_terms.specs.Refusals.{refusal_at}
-use Rattle.frame_terms.specs.Rows.{is_one, is_many}
-use Rattle.frame_terms.specs.Tables.{Tables}
+use Rattle.frame_terms.specs.declared.{document.Taken.Taken, fault.FrameFault.FrameFault}
+use Rattle.frame_terms.specs.declared.fault.{FrameReason.TheVariants.Twice, ReadRefusal.ReadRefusal}
+use Rattle.frame_terms.specs.declared.{fault.ReadRefusal.TheVariants.Frame, keyword.Keyword.Keyword, row.Row.Row}
+use Rattle.frame_terms.specs.{Keywords.same, Refusals.refusal_at, Rows.{is_one, is_many}, Tables.Tables}
 
 module _ {K : Type 0} where
   -- the row of a keyword

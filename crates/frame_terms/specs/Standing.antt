@@ -1,21 +1,13 @@
 -- What an item makes that is not the first of its document, by the row of its keyword.
 use Rattle.std.specs.Prelude.{ℕ, [], Option, Some, None, Result, Ok, Err, if◌then◌else◌}
 use Rattle.item_terms.specs.Items.{Item}
-use Rattle.frame_terms.specs.declared.document.Group.{Group}
-use Rattle.frame_terms.specs.declared.document.Made.{Made}
-use Rattle.frame_terms.specs.declared.document.Made.TheVariants.{Passes, Pushes, Opens, Enters, Leaves, Ends, Stops}
-use Rattle.frame_terms.specs.declared.document.Open.{Open}
-use Rattle.frame_terms.specs.declared.document.Taken.{Taken}
-use Rattle.frame_terms.specs.declared.fault.FrameReason.TheVariants.{Missing, Order}
-use Rattle.frame_terms.specs.declared.fault.ReadRefusal.{ReadRefusal}
-use Rattle.frame_terms.specs.declared.keyword.Keyword.{Keyword}
-use Rattle.frame_terms.specs.declared.row.Row.{Row}
-use Rattle.frame_terms.specs.declared.section.Again.{Again}
-use Rattle.frame_terms.specs.declared.section.Again.TheVariants.{Nothing, Section, Document}
-use Rattle.frame_terms.specs.Keywords.{same}
-use Rattle.frame_terms.specs.Order.{is_keyword, opener, is_strange, following_sections, opened_by, passed_over, first_of, inner}
-use Rattle.frame_terms.specs.Refusals.{refusal_at}
-use Rattle.frame_terms.specs.Sections.{row_of, lacking_keyword, lacking_but, accept}
+use Rattle.frame_terms.specs.declared.document.{Group.Group, Made.{Made, TheVariants.{Passes, Pushes, Opens, Enters}}}
+use Rattle.frame_terms.specs.declared.document.{Made.TheVariants.{Leaves, Ends, Stops}, Open.Open, Taken.Taken}
+use Rattle.frame_terms.specs.declared.fault.{FrameReason.TheVariants.{Missing, Order}, ReadRefusal.ReadRefusal}
+use Rattle.frame_terms.specs.declared.{keyword.Keyword.Keyword, row.Row.Row, section.Again.{Again, TheVariants.Nothing}}
+use Rattle.frame_terms.specs.{declared.section.Again.TheVariants.{Section, Document}, Keywords.same, Order.is_keyword}
+use Rattle.frame_terms.specs.Order.{opener, is_strange, following_sections, opened_by, passed_over, first_of, inner}
+use Rattle.frame_terms.specs.{Refusals.refusal_at, Sections.{row_of, lacking_keyword, lacking_but, accept}}
 use Rattle.frame_terms.specs.Tables.{Tables}
 
 module _ {S V : Type 0} where

@@ -1,11 +1,8 @@
 -- The tables of a kind of document.
 use Rattle.std.specs.Prelude.{Bool, List, Result}
 use Rattle.item_terms.specs.Items.{Item}
-use Rattle.frame_terms.specs.declared.document.Taken.{Taken}
-use Rattle.frame_terms.specs.declared.fault.FrameFault.{FrameFault}
-use Rattle.frame_terms.specs.declared.keyword.Keyword.{Keyword}
-use Rattle.frame_terms.specs.declared.row.Row.{Row}
-use Rattle.frame_terms.specs.declared.section.Shape.{Shape}
+use Rattle.frame_terms.specs.declared.{document.Taken.Taken, fault.FrameFault.FrameFault, keyword.Keyword.Keyword}
+use Rattle.frame_terms.specs.declared.{row.Row.Row, section.Shape.Shape}
 
 -- Of a document with the sections S, whose items are of the kinds K and say V, and which remembers X across them:
 -- first     the section that it begins with

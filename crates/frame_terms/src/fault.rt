@@ -1,7 +1,6 @@
 // Why a document is refused.
 ghost use Rattle.std.specs.Prelude.{◌≡◌};
-ghost use Rattle.frame_terms.specs.Refusals.{of_doc};
-ghost use Rattle.frame_terms.specs.declared.fault.ReadRefusal.TheVariants.{Memory};
+ghost use Rattle.frame_terms.specs.{Refusals.of_doc, declared.fault.ReadRefusal.TheVariants.Memory};
 
 use crate::keyword::Keyword;
 use crate::row::Limit;

@@ -1,6 +1,6 @@
 // What a keyword's text is, and which keywords are one.
 ghost use Rattle.std.specs.Prelude.{◌≡◌};
-ghost use Rattle.frame_terms.specs.Keywords.{text_of, number_of, same};
+ghost use Rattle.frame_terms.specs.Keywords.{text_of, same};
 
 use crate::keyword::Keyword;
 
@@ -88,94 +88,11 @@ impl Keyword {
         }
     }
 
-    /// Its number in the enum, from 0.
-    pub fn number(self) -> u8
-        ensures { result ≡ number_of self }
-    {
-        match self {
-            Keyword::R => 0,
-            Keyword::A => 1,
-            Keyword::S => 2,
-            Keyword::V => 3,
-            Keyword::Pr => 4,
-            Keyword::W => 5,
-            Keyword::P => 6,
-            Keyword::M => 7,
-            Keyword::Id => 8,
-            Keyword::NetworkStatusVersion => 9,
-            Keyword::VoteStatus => 10,
-            Keyword::ConsensusMethods => 11,
-            Keyword::ConsensusMethod => 12,
-            Keyword::Published => 13,
-            Keyword::ValidAfter => 14,
-            Keyword::FreshUntil => 15,
-            Keyword::ValidUntil => 16,
-            Keyword::VotingDelay => 17,
-            Keyword::ClientVersions => 18,
-            Keyword::ServerVersions => 19,
-            Keyword::KnownFlags => 20,
-            Keyword::FlagThresholds => 21,
-            Keyword::RecommendedClientProtocols => 22,
-            Keyword::RecommendedRelayProtocols => 23,
-            Keyword::RequiredClientProtocols => 24,
-            Keyword::RequiredRelayProtocols => 25,
-            Keyword::Params => 26,
-            Keyword::SharedRandPreviousValue => 27,
-            Keyword::SharedRandCurrentValue => 28,
-            Keyword::DirSource => 29,
-            Keyword::Contact => 30,
-            Keyword::VoteDigest => 31,
-            Keyword::DirectoryFooter => 32,
-            Keyword::BandwidthWeights => 33,
-            Keyword::DirectorySignature => 34,
-            Keyword::DirKeyCertificateVersion => 35,
-            Keyword::DirAddress => 36,
-            Keyword::Fingerprint => 37,
-            Keyword::DirIdentityKey => 38,
-            Keyword::DirKeyPublished => 39,
-            Keyword::DirKeyExpires => 40,
-            Keyword::DirSigningKey => 41,
-            Keyword::DirKeyCrosscert => 42,
-            Keyword::DirKeyCertification => 43,
-            Keyword::ConsensusDigest => 44,
-            Keyword::AdditionalDigest => 45,
-            Keyword::AdditionalSignature => 46,
-            Keyword::Router => 47,
-            Keyword::IdentityEd25519 => 48,
-            Keyword::MasterKeyEd25519 => 49,
-            Keyword::Platform => 50,
-            Keyword::Uptime => 51,
-            Keyword::Bandwidth => 52,
-            Keyword::Hibernating => 53,
-            Keyword::OnionKey => 54,
-            Keyword::SigningKey => 55,
-            Keyword::NtorOnionKey => 56,
-            Keyword::Accept => 57,
-            Keyword::Reject => 58,
-            Keyword::Ipv6Policy => 59,
-            Keyword::Family => 60,
-            Keyword::OrAddress => 61,
-            Keyword::TunnelledDirServer => 62,
-            Keyword::Proto => 63,
-            Keyword::RouterSigEd25519 => 64,
-            Keyword::RouterSignature => 65,
-            Keyword::P6 => 66,
-            Keyword::Station => 67,
-            Keyword::Own => 68,
-            Keyword::Schedule => 69,
-            Keyword::Authority => 70,
-            Keyword::Rule => 71,
-            Keyword::Measured => 72,
-            Keyword::EndStation => 73,
-            Keyword::FamilyIds => 74,
-        }
-    }
-
     /// Whether two keywords are one.
     #[tactic(auto, unfolding(crate::specs::Keywords::same))]
     pub fn same(self, other: Keyword) -> bool
         ensures { result ≡ same self other }
     {
-        self.number() == other.number()
+        self == other
     }
 }

@@ -1,6 +1,5 @@
 -- The text of items is that of its parts, one after the other.
-use Rattle.std.proofs.Common.{◌≡◌, ◌∙◌, ℕ, List, [], ◌∷◌, ◌++◌, refl, sym, ap, append_assoc}
-use Rattle.std.proofs.lemmas.List.{append-nil}
+use Rattle.std.proofs.{Common.{◌≡◌, ◌∙◌, ℕ, List, [], ◌∷◌, ◌++◌, refl, sym, ap, append_assoc}, lemmas.List.append-nil}
 use Rattle.dirdoc_grammar.specs.Writing.{NewItem, item_text, items_text}
 
 pub sections : (front back : List NewItem) → items_text (front ++ back) ≡ items_text front ++ items_text back

@@ -2,10 +2,8 @@
 use Rattle.std.specs.Prelude.{ℕ, nat_lt, length, Result, Ok, Err, if◌then◌else◌}
 use Rattle.item_terms.specs.Items.{Item}
 use Rattle.frame_values.specs.Arguments.{arguments_of}
-use Rattle.frame_terms.specs.declared.fault.FrameFault.{FrameFault}
-use Rattle.frame_terms.specs.declared.fault.FrameReason.TheVariants.{Value, TooMany}
-use Rattle.frame_terms.specs.declared.row.Limit.{Limit}
-use Rattle.frame_terms.specs.Rows.{limit_number}
+use Rattle.frame_terms.specs.declared.fault.{FrameFault.FrameFault, FrameReason.TheVariants.{Value, TooMany}}
+use Rattle.frame_terms.specs.{declared.row.Limit.Limit, Rows.limit_number}
 
 module _ {V : Type 0} where
   -- what an item says, or the fault at the place of what is wrong

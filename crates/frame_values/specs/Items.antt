@@ -2,8 +2,7 @@
 use Rattle.std.specs.Prelude.{ℕ, List, [], ◌∷◌, Option, Some, None}
 use Rattle.dir_bytes.specs.FieldTexts.{moment_text}
 use Rattle.dirdoc_grammar.specs.Writing.{NewItem}
-use Rattle.frame_terms.specs.Keywords.{text_of}
-use Rattle.frame_terms.specs.declared.keyword.Keyword.{Keyword}
+use Rattle.frame_terms.specs.{Keywords.text_of, declared.keyword.Keyword.Keyword}
 use Rattle.frame_values.specs.Parts.{moment_of}
 
 -- an item whose line has this rest, without an object

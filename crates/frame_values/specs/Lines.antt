@@ -1,17 +1,11 @@
 -- What the line of an item says, or the place of what is wrong: its arguments from left to right.
-use Rattle.std.specs.Prelude.{ℕ, ◌+◌, ◌*◌, List, [], Option, Some, None, Result, Ok, Err, if◌then◌else◌}
+use Rattle.std.specs.{Prelude.{ℕ, ◌+◌, ◌*◌, List, [], Option, Some, None, Result, Ok, Err, if◌then◌else◌}, Str.bytes_eq}
 use Rattle.item_terms.specs.Items.{Item}
 use Rattle.dir_bytes.specs.Fields.{date, time_of_day, address}
-use Rattle.std.specs.Str.{bytes_eq}
-use Rattle.dir_values.specs.Digests.{fingerprint}
-use Rattle.dir_values.specs.FlagSets.{wrong_flag}
-use Rattle.dir_values.specs.Names.{is_nickname}
-use Rattle.dir_values.specs.Numbers.{number_of, port_of, wrong_number}
-use Rattle.dir_values.specs.declared.digest.Fingerprint.{Fingerprint}
-use Rattle.frame_values.specs.declared.found.Span.{Span}
-use Rattle.frame_values.specs.declared.found.DirSource.{DirSource}
-use Rattle.frame_values.specs.Arguments.{arguments_of, front, others, field, next}
-use Rattle.frame_values.specs.Fields.{span, span_if, is_there}
+use Rattle.dir_values.specs.{Digests.fingerprint, FlagSets.wrong_flag, Names.is_nickname, Numbers.{number_of, port_of}}
+use Rattle.dir_values.specs.{Numbers.wrong_number, declared.digest.Fingerprint.Fingerprint}
+use Rattle.frame_values.specs.{declared.found.{Span.Span, DirSource.DirSource}, Arguments.{arguments_of, front, others}}
+use Rattle.frame_values.specs.{Arguments.{field, next}, Fields.{span, span_if, is_there}}
 
 -- where the arguments stand, from the first one's first byte through the last one
 abbrev pub rest_of : Item → Span

@@ -1,17 +1,11 @@
 -- The objects of items, and the signature of a vote.
 use Rattle.std.specs.Prelude.{ℕ, ◌+◌, ◌==◌, Bool, false, List, length, Option, Some, None, is_some, Result, Ok, Err}
-use Rattle.std.specs.Prelude.{codes, if◌then◌else◌}
-use Rattle.item_terms.specs.Items.{Item, Object}
-use Rattle.std.specs.Str.{bytes_eq}
-use Rattle.item_terms.specs.Bytes.{space}
-use Rattle.dir_values.specs.Arguments.{Argument}
-use Rattle.dir_values.specs.Digests.{fingerprint, key_digest}
-use Rattle.dir_values.specs.Names.{algorithm}
+use Rattle.std.specs.{Prelude.{codes, if◌then◌else◌}, Str.bytes_eq}
+use Rattle.item_terms.specs.{Items.{Item, Object}, Bytes.space}
+use Rattle.dir_values.specs.{Arguments.Argument, Digests.{fingerprint, key_digest}, Names.algorithm}
 use Rattle.dir_values.specs.declared.algorithm.Algorithm.{Algorithm}
-use Rattle.frame_values.specs.declared.found.Span.{Span}
-use Rattle.frame_values.specs.declared.found.VoteSignature.{VoteSignature}
-use Rattle.frame_values.specs.Arguments.{arguments_of, front, others, field, next}
-use Rattle.frame_values.specs.Fields.{is_there, span}
+use Rattle.frame_values.specs.{declared.found.{Span.Span, VoteSignature.VoteSignature}, Arguments.{arguments_of, front}}
+use Rattle.frame_values.specs.{Arguments.{others, field, next}, Fields.{is_there, span}}
 
 -- whether there is an object, and it has these words
 abbrev pub has_words : Option Object → List ℕ → Bool

@@ -1,13 +1,9 @@
 -- What the items of a section say. Where an item is not there, or says something else, its value is nothing.
-use Rattle.std.specs.Prelude.{ℕ, List, [], ◌∷◌, Option, Some, None}
-use Rattle.std.specs.List.{find}
+use Rattle.std.specs.{Prelude.{ℕ, List, [], ◌∷◌, Option, Some, None}, List.find}
 use Rattle.dir_values.specs.declared.digest.Fingerprint.{Fingerprint}
-use Rattle.frame_terms.specs.declared.document.Taken.{Taken}
-use Rattle.frame_terms.specs.declared.keyword.Keyword.{Keyword}
-use Rattle.frame_terms.specs.Keywords.{same}
-use Rattle.frame_values.specs.declared.values.Value.{Value}
+use Rattle.frame_terms.specs.{declared.{document.Taken.Taken, keyword.Keyword.Keyword}, Keywords.same}
+use Rattle.frame_values.specs.declared.{values.Value.Value, found.Span.Span}
 use Rattle.frame_values.specs.declared.values.Value.TheVariants as value
-use Rattle.frame_values.specs.declared.found.Span.{Span}
 
 -- the span of no text
 abbrev pub nowhere : Span

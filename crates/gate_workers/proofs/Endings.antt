@@ -1,11 +1,9 @@
 -- What the ends of workers say of their gates.
-use Rattle.std.proofs.Common.{◌≡◌, ℕ, ◌+◌, ◌<◌, ◌≤◌, List, [], ◌∷◌, length, zero, suc, refl, sym, subst, arith, true, false}
-use Rattle.std.specs.Prelude.{◌≢◌, All, Bool, slice_index_or}
+use Rattle.std.proofs.Common.{◌≡◌, ℕ, ◌+◌, ◌<◌, ◌≤◌, List, [], ◌∷◌, length, zero, suc, refl, sym, subst, arith, true}
+use Rattle.std.{proofs.Common.false, specs.Prelude.{◌≢◌, All, Bool, slice_index_or}}
 use Rattle.dir_bytes.specs.Causes.{Rose}
-use Rattle.gate_workers.specs.declared.worker.End.{End}
+use Rattle.gate_workers.specs.{declared.worker.{End.End, Worker.Worker}, Workers.{Ends, Listens, AnyFault, GateRose}}
 use Rattle.gate_workers.specs.declared.worker.End.TheVariants as ends
-use Rattle.gate_workers.specs.declared.worker.Worker.{Worker}
-use Rattle.gate_workers.specs.Workers.{Ends, Listens, AnyFault, GateRose}
 
 -- a count that rose after it did not fall rose
 rose_on : (a b c : ℕ) → a ≤ b → Rose b c → Rose a c

@@ -1,11 +1,9 @@
 -- How workers end.
 use Rattle.std.specs.Prelude.{◌≡◌, ◌≢◌, ◌≤◌, ◌<◌, ℕ, Bool, true, false, List, All, length, slice_index_or}
 use Rattle.dir_bytes.specs.Causes.{Rose}
-use Rattle.gate_workers.specs.declared.running.Ran.{Ran}
+use Rattle.gate_workers.specs.declared.{running.Ran.Ran, worker.{End.End, Worker.Worker}}
 use Rattle.gate_workers.specs.declared.running.Ran.TheVariants as ran
-use Rattle.gate_workers.specs.declared.worker.End.{End}
 use Rattle.gate_workers.specs.declared.worker.End.TheVariants as ends
-use Rattle.gate_workers.specs.declared.worker.Worker.{Worker}
 
 -- A worker ended where its gate was closed, or where its gate's count of faults rose.
 abbrev pub Ends : ℕ → ℕ → Bool → End → Type 0

@@ -1,7 +1,6 @@
 // All workers, side by side.
 ghost use Rattle.std.specs.Prelude.{◌≡◌, ◌≢◌, ◌<◌, ◌≤◌, ℕ, All, MatchBool, length, slice_index_or};
-ghost use Rattle.gate_workers.specs.Workers.{AnyFault, Ends, Listens, RanTo};
-ghost use Rattle.gate_workers.specs.declared.worker.Worker.{Worker};
+ghost use Rattle.gate_workers.specs.{Workers.{AnyFault, Ends, Listens, RanTo}, declared.worker.Worker.Worker};
 
 use crate::clerk::Clerk;
 use crate::worker::{End, Worker, listen, work};

@@ -1,21 +1,22 @@
 -- The items that are found are those of a front of the lines, and of all lines where no fault is found.
-use Rattle.std.proofs.Common.{◌≡◌, ℕ, ◌+◌, Bool, true, false, cond, List, [], ◌∷◌, ◌++◌, drop, Option, Some, None, Ok, Err, refl, sym, ap, subst, ◌∙◌, append_assoc, arith}
-use Rattle.std.specs.Prelude.{nat_lt, ◌&&◌}
-use Rattle.std.proofs.lemmas.Bool.{ltb-true, ltb-false}
-use Rattle.std.proofs.lemmas.List.{append-nil}
-use Rattle.item_terms.specs.declared.fault.DocFault.{DocFault}
-use Rattle.item_terms.specs.declared.fault.DocReason.TheVariants.{Keyword, ObjectWords, Unterminated, ObjectBase64, ObjectEnd, ObjectTooLong}
-use Rattle.item_terms.specs.Lines.{Line, lines, size}
-use Rattle.item_terms.specs.Words.{is_blank_line, is_keyword_line, begin_words, is_end_line}
-use Rattle.item_terms.specs.Base64Text.{is_body}
-use Rattle.item_terms.specs.Faults.{at, line_fault, object_line_fault, max_object}
-use Rattle.item_terms.specs.Steps.{Item, Open, Step, Object, step, nothing, keyword_line, object_lines, keyword_item, begun_object, with_line, with_object, open_item, item_unless, open_unless, step_unless, read_line, starts_dash, first_object_line}
+use Rattle.std.proofs.Common.{◌≡◌, ℕ, ◌+◌, Bool, true, false, cond, List, [], ◌∷◌, ◌++◌, drop, Option, Some, None, Ok}
+use Rattle.std.proofs.{Common.{Err, refl, sym, ap, subst, ◌∙◌, append_assoc, arith}, lemmas.Bool.{ltb-true, ltb-false}}
+use Rattle.std.{proofs.lemmas.List.append-nil, specs.Prelude.{nat_lt, ◌&&◌}}
+use Rattle.item_terms.specs.declared.fault.{DocFault.DocFault, DocReason.TheVariants.{Keyword, ObjectWords}}
+use Rattle.item_terms.specs.declared.fault.DocReason.TheVariants.{Unterminated, ObjectBase64, ObjectEnd, ObjectTooLong}
+use Rattle.item_terms.specs.{Lines.{Line, lines, size}, Words.{is_blank_line, is_keyword_line, begin_words}}
+use Rattle.item_terms.specs.{Words.is_end_line, Base64Text.is_body, Faults.{at, line_fault, object_line_fault}}
+use Rattle.item_terms.specs.{Faults.max_object, Steps.{Item, Open, Step, Object, step, nothing, keyword_line}}
+use Rattle.item_terms.specs.Steps.{object_lines, keyword_item, begun_object, with_line, with_object, open_item}
+use Rattle.item_terms.specs.Steps.{item_unless, open_unless, step_unless, read_line, starts_dash, first_object_line}
 use Rattle.item_terms.specs.Items.{Contents, contents_of, also, proceed, failed_contents, at_end, items_from}
-use Rattle.grammar_laws.proofs.BlockLines.{sizes_append, dash_no_keyword, last_append}
-use Rattle.grammar_laws.specs.BlockFaults.{IsFaultBetween, IsFaultOfBegin, IsFaultInside, IsFaultAfter, HasFault, EndInFault, begin_with_dash, end_in_keyword_line}
-use Rattle.grammar_laws.specs.Blocks.{sizes, text_of, IsBeginLine, IsBodyLine, IsEndLine, AreBodyLines, AreLinesOfObject, AreLinesOfItem, AreLinesOfItems, ItemsAreThere}
-use Rattle.grammar_laws.proofs.OpenFronts.{Left, HasFront, stops, ends, front_blank, front_item, OpensItem, OpensObject}
-use Rattle.grammar_laws.proofs.OpenFronts.{Opens, front_alone}
+use Rattle.grammar_laws.proofs.{BlockLines.{sizes_append, dash_no_keyword, last_append}, OpenFronts.{Left, HasFront}}
+use Rattle.grammar_laws.proofs.OpenFronts.{stops, ends, front_blank, front_item, OpensItem, OpensObject, Opens}
+use Rattle.grammar_laws.{proofs.OpenFronts.front_alone, specs.BlockFaults.{IsFaultBetween, IsFaultOfBegin}}
+use Rattle.grammar_laws.specs.BlockFaults.{IsFaultInside, IsFaultAfter, HasFault, EndInFault, begin_with_dash}
+use Rattle.grammar_laws.specs.{BlockFaults.end_in_keyword_line, Blocks.{sizes, text_of, IsBeginLine, IsBodyLine}}
+use Rattle.grammar_laws.specs.Blocks.{IsEndLine, AreBodyLines, AreLinesOfObject, AreLinesOfItem, AreLinesOfItems}
+use Rattle.grammar_laws.specs.Blocks.{ItemsAreThere}
 
 text_more : (front : List Line) (line : Line) → text_of (front ++ line ∷ []) ≡ text_of front ++ line.text ++ 10 ∷ []
 text_more [] line = refl

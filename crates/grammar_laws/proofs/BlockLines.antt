@@ -1,14 +1,12 @@
 -- How lines of each kind begin and end, and lines in front of lines.
-use Rattle.std.proofs.Common.{◌≡◌, ℕ, ◌+◌, Bool, true, false, cond, List, [], ◌∷◌, ◌++◌, length, take, drop, Option, Some, None, refl, sym, ap, ◌∙◌, arith}
-use Rattle.std.specs.Prelude.{nat_eq, codes, ◌&&◌, ◌==◌, option_and_then}
+use Rattle.std.proofs.Common.{◌≡◌, ℕ, ◌+◌, Bool, true, false, cond, List, [], ◌∷◌, ◌++◌, length, take, drop, Option}
+use Rattle.std.proofs.{Common.{Some, None, refl, sym, ap, ◌∙◌, arith}, lemmas.Bool.{false≢true, Decides.nat_tests}}
+use Rattle.std.{proofs.lemmas.List.append-nil, specs.Prelude.{nat_eq, codes, ◌&&◌, ◌==◌, option_and_then}}
 use Rattle.std.specs.List.{list_all}
 use lib.Pointwise.{pointwise}
-use Rattle.std.proofs.lemmas.Bool.{false≢true}
-use Rattle.std.proofs.lemmas.Bool.Decides.{nat_tests}
-use Rattle.std.proofs.lemmas.List.{append-nil}
-use Rattle.item_terms.specs.Lines.{Line}
-use Rattle.item_terms.specs.Words.{is_blank, is_blank_line, is_letter_or_digit, is_keyword_line, ends_or_blank, after_keyword, begins_dash, begins, ends, strip, strip_end, dashes, if_words, is_dashes}
-use Rattle.item_terms.specs.Items.{Item}
+use Rattle.item_terms.specs.{Lines.Line, Words.{is_blank, is_blank_line, is_letter_or_digit, is_keyword_line}}
+use Rattle.item_terms.specs.Words.{ends_or_blank, after_keyword, begins_dash, begins, ends, strip, strip_end, dashes}
+use Rattle.item_terms.specs.{Words.{if_words, is_dashes}, Items.Item}
 use Rattle.grammar_laws.specs.Blocks.{sizes, IsBlankLine, AreBlankLines, AreLinesOfItem, AreLinesOfItems}
 use Rattle.grammar_laws.specs.BlockFaults.{begin_with_dash, end_in_keyword_line}
 

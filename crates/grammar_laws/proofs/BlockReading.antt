@@ -1,18 +1,18 @@
 -- A document of some items is read as these items.
-use Rattle.std.proofs.Common.{◌≡◌, ℕ, ◌+◌, Bool, true, false, cond, List, [], ◌∷◌, ◌++◌, drop, Option, Some, None, Ok, Err, refl, sym, ap, ◌∙◌, append_assoc, arith}
+use Rattle.std.proofs.Common.{◌≡◌, ℕ, ◌+◌, Bool, true, false, cond, List, [], ◌∷◌, ◌++◌, drop, Option, Some, None, Ok}
+use Rattle.std.proofs.{Common.{Err, refl, sym, ap, ◌∙◌, append_assoc, arith}, lemmas.{Bool.lt-ltb, List.append-nil}}
 use Rattle.std.specs.Prelude.{◌&&◌}
-use Rattle.std.proofs.lemmas.Bool.{lt-ltb}
-use Rattle.std.proofs.lemmas.List.{append-nil}
-use Rattle.item_terms.specs.declared.fault.DocFault.{DocFault}
-use Rattle.item_terms.specs.declared.fault.DocReason.TheVariants.{Keyword, ObjectTooLong}
-use Rattle.item_terms.specs.Lines.{Line, lines, size}
-use Rattle.item_terms.specs.Words.{is_keyword_line, keyword, separator, arguments, argument_start, begins_dash, begins, ends, strip, begin_words, is_end_line}
-use Rattle.item_terms.specs.Base64Text.{is_body}
-use Rattle.item_terms.specs.Faults.{at, line_fault, max_object}
-use Rattle.item_terms.specs.Steps.{Item, Open, Step, Object, step, nothing, keyword_line, object_lines, keyword_item, begun_object, open_item, item_unless, open_unless, step_unless, object_step, line_item, read_line, first_object_line}
-use Rattle.item_terms.specs.Items.{Contents, contents_of, also, proceed, failed_contents, items_from}
+use Rattle.item_terms.specs.declared.fault.{DocFault.DocFault, DocReason.TheVariants.{Keyword, ObjectTooLong}}
+use Rattle.item_terms.specs.{Lines.{Line, lines, size}, Words.{is_keyword_line, keyword, separator, arguments}}
+use Rattle.item_terms.specs.Words.{argument_start, begins_dash, begins, ends, strip, begin_words, is_end_line}
+use Rattle.item_terms.specs.{Base64Text.is_body, Faults.{at, line_fault, max_object}, Steps.{Item, Open, Step, Object}}
+use Rattle.item_terms.specs.Steps.{step, nothing, keyword_line, object_lines, keyword_item, begun_object, open_item}
+use Rattle.item_terms.specs.Steps.{item_unless, open_unless, step_unless, object_step, line_item, read_line}
+use Rattle.item_terms.specs.{Steps.first_object_line, Items.{Contents, contents_of, also, proceed, failed_contents}}
+use Rattle.item_terms.specs.Items.{items_from}
 use Rattle.grammar_laws.specs.Blocks.{sizes, text_of, AreLinesOfObjectIf, AreLinesOfItem, AreLinesOfItems, NoOthersAre}
-use Rattle.grammar_laws.specs.BlockFaults.{IsFaultBetween, IsFaultOfBegin, IsFaultInside, IsFaultAfter, HasFaultInObject, HasFault, EndInFault, begin_with_dash, end_in_keyword_line}
+use Rattle.grammar_laws.specs.BlockFaults.{IsFaultBetween, IsFaultOfBegin, IsFaultInside, IsFaultAfter}
+use Rattle.grammar_laws.specs.BlockFaults.{HasFaultInObject, HasFault, EndInFault, begin_with_dash, end_in_keyword_line}
 use Rattle.grammar_laws.proofs.BlockLines.{sizes_append, and_false, end_dash, items_no_dash, last_append}
 use Rattle.grammar_laws.proofs.LineReading.{reads, keyword_step, dash_step, begin_made, begin_step, made_by, sound_step}
 use Rattle.grammar_laws.proofs.LineReading.{blanks_read, body_read, object_read}

@@ -1,19 +1,15 @@
 -- What the calls of a writer have written, call by call.
 use Rattle.std.proofs.Common.{◌≡◌, ℕ, true, false, List, [], ◌∷◌, ◌++◌, refl, sym, ap, ◌∙◌, append_assoc}
+use Rattle.std.proofs.lemmas.{Bool.false≢true, List.{append-nil, Elements.{All-append, All-cons, All-nil}}}
 use Rattle.std.specs.Prelude.{All, Some, None}
-use Rattle.std.proofs.lemmas.Bool.{false≢true}
-use Rattle.std.proofs.lemmas.List.{append-nil}
-use Rattle.std.proofs.lemmas.List.Elements.{All-append, All-cons, All-nil}
 use Rattle.base64.specs.GeneralPurpose.{IsBytes}
 use Rattle.item_terms.specs.Words.{are_words}
-use Rattle.dirdoc_grammar.specs.declared.writer.Stage.{Stage}
-use Rattle.dirdoc_grammar.specs.declared.writer.Stage.TheVariants.{Between, Begun, Rested, Ended}
-use Rattle.dirdoc_grammar.specs.Bodies.{object_text}
-use Rattle.dirdoc_grammar.specs.Writers.{Draft, in_line, is_argument}
-use Rattle.dirdoc_grammar.specs.Writing.{IsKeyword, IsLineRest, NewItem, item_text, items_text, tail}
-use Rattle.grammar_laws.specs.Calls.{Call, begin, argument, rest, end, object, MayCall, MayCallAll, after, after_all, new_draft}
-use Rattle.grammar_laws.specs.Written.{HasItems, IsItem}
-use Rattle.grammar_laws.proofs.LineRests.{joined, rest_of_argument, rest_of_joined, rest_of_nothing, tail-argument, tail-joined}
+use Rattle.dirdoc_grammar.specs.declared.writer.Stage.{Stage, TheVariants.{Between, Begun, Rested, Ended}}
+use Rattle.dirdoc_grammar.specs.{Bodies.object_text, Writers.{Draft, in_line, is_argument}, Writing.IsKeyword}
+use Rattle.dirdoc_grammar.specs.Writing.{IsLineRest, NewItem, item_text, items_text, tail}
+use Rattle.grammar_laws.specs.Calls.{Call, begin, argument, rest, end, object, MayCall, MayCallAll, after, after_all}
+use Rattle.grammar_laws.{specs.{Calls.new_draft, Written.{HasItems, IsItem}}, proofs.LineRests.joined}
+use Rattle.grammar_laws.proofs.LineRests.{rest_of_argument, rest_of_joined, rest_of_nothing, tail-argument, tail-joined}
 
 -- ---- texts
 

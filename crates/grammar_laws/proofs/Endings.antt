@@ -1,30 +1,18 @@
 -- An item that ends a document has an object, where documents end with objects.
-use Rattle.std.proofs.Common.{◌≡◌, ℕ, Bool, true, false, List, [], ◌∷◌, Option, Some, None}
-use Rattle.std.proofs.Common.{Result, Ok, Err, refl}
+use Rattle.std.proofs.Common.{◌≡◌, ℕ, Bool, true, false, List, [], ◌∷◌, Option, Some, None, Result, Ok, Err, refl}
 use Rattle.std.specs.Prelude.{is_some, not, ◌&&◌, if◌then◌else◌}
 use Rattle.item_terms.specs.Items.{Item}
-use Rattle.frame_terms.specs.Decisions.{beginning_reason, beyond_inner, first_item, made_after, made_by}
-use Rattle.frame_terms.specs.Decisions.{unless_fault, unless_refused}
-use Rattle.frame_terms.specs.Keywords.{same, word_of}
-use Rattle.frame_terms.specs.Order.{first_of, following_sections, inner, is_keyword, is_strange, opened_by, passed_over}
-use Rattle.frame_terms.specs.Refusals.{refusal_at}
-use Rattle.frame_terms.specs.Rows.{is_many}
-use Rattle.frame_terms.specs.Sections.{accept, lacking_keyword, lacking_but, row_of, stands, taken_as, taken_of}
-use Rattle.frame_terms.specs.Standing.{as_made, begins, begins_again, by_keyword, by_row, elsewhere, ends, enters}
-use Rattle.frame_terms.specs.Standing.{goes_on, in_section, unless}
-use Rattle.frame_terms.specs.Tables.{Tables}
-use Rattle.frame_terms.specs.declared.document.Group.{Group}
-use Rattle.frame_terms.specs.declared.document.Made.{Made}
-use Rattle.frame_terms.specs.declared.document.Made.TheVariants.{Passes, Pushes, Leaves, Ends, Opens, Enters, Stops}
-use Rattle.frame_terms.specs.declared.document.Open.{Open}
-use Rattle.frame_terms.specs.declared.document.Taken.{Taken}
-use Rattle.frame_terms.specs.declared.fault.FrameFault.{FrameFault}
-use Rattle.frame_terms.specs.declared.fault.FrameReason.{FrameReason}
-use Rattle.frame_terms.specs.declared.fault.FrameReason.TheVariants.{Order, Twice}
-use Rattle.frame_terms.specs.declared.fault.ReadRefusal.{ReadRefusal}
-use Rattle.frame_terms.specs.declared.keyword.Keyword.{Keyword}
-use Rattle.frame_terms.specs.declared.row.Row.{Row}
-use Rattle.frame_terms.specs.declared.section.Again.{Again}
+use Rattle.frame_terms.specs.Decisions.{beginning_reason, beyond_inner, first_item, made_after, made_by, unless_fault}
+use Rattle.frame_terms.specs.{Decisions.unless_refused, Keywords.{same, word_of}, Order.{first_of, following_sections}}
+use Rattle.frame_terms.specs.{Order.{inner, is_keyword, is_strange, opened_by, passed_over}, Refusals.refusal_at}
+use Rattle.frame_terms.specs.{Rows.is_many, Sections.{accept, lacking_keyword, lacking_but, row_of, stands, taken_as}}
+use Rattle.frame_terms.specs.{Sections.taken_of, Standing.{as_made, begins, begins_again, by_keyword, by_row}}
+use Rattle.frame_terms.specs.{Standing.{elsewhere, ends, enters, goes_on, in_section, unless}, Tables.Tables}
+use Rattle.frame_terms.specs.declared.document.{Group.Group, Made.{Made, TheVariants.{Passes, Pushes, Leaves, Ends}}}
+use Rattle.frame_terms.specs.declared.document.{Made.TheVariants.{Opens, Enters, Stops}, Open.Open, Taken.Taken}
+use Rattle.frame_terms.specs.declared.fault.{FrameFault.FrameFault, FrameReason.{FrameReason, TheVariants.Order}}
+use Rattle.frame_terms.specs.declared.fault.{FrameReason.TheVariants.Twice, ReadRefusal.ReadRefusal}
+use Rattle.frame_terms.specs.declared.{keyword.Keyword.Keyword, row.Row.Row, section.Again.Again}
 use Rattle.frame_terms.specs.declared.section.Again.TheVariants as again
 use Rattle.grammar_laws.specs.Parts.{EndWithObjects}
 

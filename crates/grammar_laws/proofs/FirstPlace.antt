@@ -1,21 +1,15 @@
 -- Where a text begins with a keyword, its first item begins there.
 use Rattle.std.proofs.Common.{◌≡◌, ℕ, ◌+◌, Bool, true, false, List, [], ◌∷◌, Option, Some, None, Result, Ok, Err, refl}
-use Rattle.std.proofs.Common.{sym, ap, subst, ◌∙◌, arith}
-use Rattle.std.proofs.lemmas.Bool.Decides.{nat_tests}
-use Rattle.std.specs.Prelude.{nat_lt, ◌==◌, ◌&&◌, if◌then◌else◌}
-use Rattle.std.specs.List.{list_all}
-use Rattle.item_terms.specs.declared.fault.DocFault.{DocFault}
-use Rattle.item_terms.specs.declared.fault.DocReason.TheVariants.{Keyword, ObjectTooLong}
-use Rattle.item_terms.specs.Base64Text.{is_body}
-use Rattle.item_terms.specs.Faults.{at, line_fault, max_object, object_line_fault}
-use Rattle.item_terms.specs.Lines.{Line, lines, onto, size}
-use Rattle.item_terms.specs.Words.{begin_words, first_is, is_blank, is_blank_line, is_end_line, is_keyword_line}
-use Rattle.item_terms.specs.Words.{is_letter_or_digit}
-use Rattle.item_terms.specs.Steps.{Item, Object, Open, Step, begun_object, first_object_line, item_unless, keyword_item}
-use Rattle.item_terms.specs.Steps.{keyword_line, nothing, object_lines, object_step, open_item, open_unless}
-use Rattle.item_terms.specs.Steps.{read_line, starts_dash, step, step_unless}
-use Rattle.grammar_laws.specs.Moved.{Reads, with_whole}
-use Rattle.grammar_laws.proofs.MovedLines.{after_line, object_made}
+use Rattle.std.{proofs.{Common.{sym, ap, subst, ◌∙◌, arith}, lemmas.Bool.Decides.nat_tests}, specs.Prelude.nat_lt}
+use Rattle.std.specs.{Prelude.{◌==◌, ◌&&◌, if◌then◌else◌}, List.list_all}
+use Rattle.item_terms.specs.declared.fault.{DocFault.DocFault, DocReason.TheVariants.{Keyword, ObjectTooLong}}
+use Rattle.item_terms.specs.{Base64Text.is_body, Faults.{at, line_fault, max_object, object_line_fault}, Lines.Line}
+use Rattle.item_terms.specs.{Lines.{lines, onto, size}, Words.{begin_words, first_is, is_blank, is_blank_line}}
+use Rattle.item_terms.specs.{Words.{is_end_line, is_keyword_line, is_letter_or_digit}, Steps.{Item, Object, Open, Step}}
+use Rattle.item_terms.specs.Steps.{begun_object, first_object_line, item_unless, keyword_item, keyword_line, nothing}
+use Rattle.item_terms.specs.Steps.{object_lines, object_step, open_item, open_unless, read_line, starts_dash, step}
+use Rattle.item_terms.specs.Steps.{step_unless}
+use Rattle.grammar_laws.{specs.Moved.{Reads, with_whole}, proofs.MovedLines.{after_line, object_made}}
 
 -- an item that begins at this place is open
 abbrev BeginsAt : ℕ → Open → Type 0

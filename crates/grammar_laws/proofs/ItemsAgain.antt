@@ -1,17 +1,13 @@
 -- Items that were written are read again, with their objects.
-use Rattle.std.proofs.Common.{◌≡◌, ℕ, ◌+◌, ◌≤◌, Bool, true, false, List, [], ◌∷◌, ◌++◌, length, Option, Some, None, refl, ap, ◌∙◌, append_assoc, arith}
-use Rattle.std.specs.Prelude.{◌==◌, ◌&&◌, not}
-use Rattle.std.specs.List.{list_all}
-use Rattle.std.proofs.lemmas.Bool.{false≢true}
-use Rattle.std.proofs.lemmas.List.{length-append}
-use Rattle.item_terms.specs.Words.{begins_dash, first_is, is_letter_or_digit, is_word_byte}
-use Rattle.item_terms.specs.Faults.{max_line}
-use Rattle.item_terms.specs.Steps.{nothing}
-use Rattle.item_terms.specs.Items.{Contents, contents, also}
-use Rattle.dirdoc_grammar.specs.Bodies.{object_text}
-use Rattle.dirdoc_grammar.specs.Writing.{AreWritable, IsKeyword, IsLineRest, IsWritable, NewItem, NewObject, all_written, in_front, is_open, item_text, items_text, lacks_object, object_text_if, tail, written}
-use Rattle.grammar_laws.proofs.ObjectAgain.{object_again}
-use Rattle.grammar_laws.proofs.RoundTrip.{MayStand, line_again, whole_item, written_item}
+use Rattle.std.proofs.Common.{◌≡◌, ℕ, ◌+◌, ◌≤◌, Bool, true, false, List, [], ◌∷◌, ◌++◌, length, Option, Some, None}
+use Rattle.std.proofs.{Common.{refl, ap, ◌∙◌, append_assoc, arith}, lemmas.{Bool.false≢true, List.length-append}}
+use Rattle.std.specs.{Prelude.{◌==◌, ◌&&◌, not}, List.list_all}
+use Rattle.item_terms.specs.{Words.{begins_dash, first_is, is_letter_or_digit, is_word_byte}, Faults.max_line}
+use Rattle.item_terms.specs.{Steps.nothing, Items.{Contents, contents, also}}
+use Rattle.dirdoc_grammar.specs.{Bodies.object_text, Writing.{AreWritable, IsKeyword, IsLineRest, IsWritable, NewItem}}
+use Rattle.dirdoc_grammar.specs.Writing.{NewObject, all_written, in_front, is_open, item_text, items_text, lacks_object}
+use Rattle.dirdoc_grammar.specs.Writing.{object_text_if, tail, written}
+use Rattle.grammar_laws.proofs.{ObjectAgain.object_again, RoundTrip.{MayStand, line_again, whole_item, written_item}}
 use Rattle.grammar_laws.proofs.WrittenBytes.{all_joined, avoids, differs}
 
 -- ---- the keyword line

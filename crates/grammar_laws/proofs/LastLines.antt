@@ -1,19 +1,15 @@
 -- The lines up to the end of an item that has an object; and such an item that ends where the text ends is the last.
-use Rattle.std.proofs.Common.{◌≡◌, ℕ, ◌+◌, ◌≤◌, Bool, true, false, List, [], ◌∷◌, ◌++◌, Option}
-use Rattle.std.proofs.Common.{Some, None, Result, Ok, Err, refl, sym, ap, subst, ◌∙◌, arith, append-nil}
-use Rattle.std.specs.Prelude.{if◌then◌else◌, nat_lt, is_some}
-use Rattle.item_terms.specs.declared.fault.DocFault.{DocFault}
-use Rattle.item_terms.specs.declared.fault.DocReason.TheVariants.{Keyword, ObjectTooLong}
-use Rattle.item_terms.specs.Base64Text.{is_body}
-use Rattle.item_terms.specs.Faults.{at, line_fault, max_object, object_line_fault}
-use Rattle.item_terms.specs.Words.{begin_words, is_blank_line, is_end_line, is_keyword_line}
-use Rattle.item_terms.specs.Items.{Contents, also, at_end, contents_of, proceed}
-use Rattle.item_terms.specs.Lines.{Line, size}
-use Rattle.item_terms.specs.Steps.{Item, Object, Open, Step, begun_object, first_object_line, item_unless, keyword_item}
-use Rattle.item_terms.specs.Steps.{keyword_line, nothing, object_lines, object_step, open_item, open_unless}
-use Rattle.item_terms.specs.Steps.{read_line, starts_dash, step, step_unless}
-use Rattle.grammar_laws.specs.Moved.{Reads, sizes, with_whole}
-use Rattle.grammar_laws.proofs.MovedLines.{after_line, object_made}
+use Rattle.std.proofs.Common.{◌≡◌, ℕ, ◌+◌, ◌≤◌, Bool, true, false, List, [], ◌∷◌, ◌++◌, Option, Some, None, Result, Ok}
+use Rattle.std.{proofs.Common.{Err, refl, sym, ap, subst, ◌∙◌, arith, append-nil}, specs.Prelude.if◌then◌else◌}
+use Rattle.std.specs.Prelude.{nat_lt, is_some}
+use Rattle.item_terms.specs.declared.fault.{DocFault.DocFault, DocReason.TheVariants.{Keyword, ObjectTooLong}}
+use Rattle.item_terms.specs.{Base64Text.is_body, Faults.{at, line_fault, max_object, object_line_fault}}
+use Rattle.item_terms.specs.{Words.{begin_words, is_blank_line, is_end_line, is_keyword_line}, Items.{Contents, also}}
+use Rattle.item_terms.specs.{Items.{at_end, contents_of, proceed}, Lines.{Line, size}, Steps.{Item, Object, Open, Step}}
+use Rattle.item_terms.specs.Steps.{begun_object, first_object_line, item_unless, keyword_item, keyword_line, nothing}
+use Rattle.item_terms.specs.Steps.{object_lines, object_step, open_item, open_unless, read_line, starts_dash, step}
+use Rattle.item_terms.specs.Steps.{step_unless}
+use Rattle.grammar_laws.{specs.Moved.{Reads, sizes, with_whole}, proofs.MovedLines.{after_line, object_made}}
 
 -- an item that is open after its line has no object
 abbrev pub IsPlain : Open → Type 0

@@ -1,17 +1,17 @@
 -- What lines of a known kind make when they are read, one or many.
-use Rattle.std.proofs.Common.{◌≡◌, ℕ, ◌+◌, Bool, true, cond, List, [], ◌∷◌, ◌++◌, Option, Some, None, Ok, Err, refl, sym, ap, ◌∙◌, append_assoc, arith}
-use Rattle.std.proofs.lemmas.Bool.{le-ltb}
-use Rattle.std.proofs.lemmas.List.{append-nil}
-use Rattle.item_terms.specs.declared.fault.DocFault.{DocFault}
-use Rattle.item_terms.specs.declared.fault.DocReason.TheVariants.{Keyword, ObjectBase64, ObjectEnd, ObjectTooLong}
-use Rattle.item_terms.specs.Lines.{Line, lines, size}
+use Rattle.std.proofs.Common.{◌≡◌, ℕ, ◌+◌, Bool, true, cond, List, [], ◌∷◌, ◌++◌, Option, Some, None, Ok, Err, refl}
+use Rattle.std.proofs.{Common.{sym, ap, ◌∙◌, append_assoc, arith}, lemmas.{Bool.le-ltb, List.append-nil}}
+use Rattle.item_terms.specs.declared.fault.{DocFault.DocFault, DocReason.TheVariants.{Keyword, ObjectBase64, ObjectEnd}}
+use Rattle.item_terms.specs.{declared.fault.DocReason.TheVariants.ObjectTooLong, Lines.{Line, lines, size}}
 use Rattle.item_terms.specs.Words.{is_keyword_line, keyword, begins_dash, begins, ends, strip, begin_words, is_end_line}
-use Rattle.item_terms.specs.Base64Text.{is_body}
-use Rattle.item_terms.specs.Faults.{at, line_fault, object_line_fault, max_object}
-use Rattle.item_terms.specs.Steps.{Item, Open, Step, Object, step, nothing, keyword_line, object_lines, keyword_item, begun_object, with_line, with_object, open_item, item_unless, open_unless, step_unless, object_step, line_item, read_line, starts_dash, first_object_line}
+use Rattle.item_terms.specs.{Base64Text.is_body, Faults.{at, line_fault, object_line_fault, max_object}, Steps.Item}
+use Rattle.item_terms.specs.Steps.{Open, Step, Object, step, nothing, keyword_line, object_lines, keyword_item}
+use Rattle.item_terms.specs.Steps.{begun_object, with_line, with_object, open_item, item_unless, open_unless}
+use Rattle.item_terms.specs.Steps.{step_unless, object_step, line_item, read_line, starts_dash, first_object_line}
 use Rattle.item_terms.specs.Items.{Contents, contents_of, also, proceed}
-use Rattle.grammar_laws.specs.Blocks.{sizes, text_of, IsBlankLine, IsKeywordLine, IsBeginLine, IsBodyLine, IsEndLine, AreBlankLines, AreBodyLines, AreLinesOfObject}
-use Rattle.grammar_laws.proofs.BlockLines.{sizes_append, keyword_not_blank, end_dash, begin_dash}
+use Rattle.grammar_laws.specs.Blocks.{sizes, text_of, IsBlankLine, IsKeywordLine, IsBeginLine, IsBodyLine, IsEndLine}
+use Rattle.grammar_laws.{specs.Blocks.{AreBlankLines, AreBodyLines, AreLinesOfObject}, proofs.BlockLines.sizes_append}
+use Rattle.grammar_laws.proofs.BlockLines.{keyword_not_blank, end_dash, begin_dash}
 
 -- ---- one line
 

@@ -1,14 +1,12 @@
 -- What is joined of two rests of a keyword line, with a space between them, is the rest of a line.
-use Rattle.std.proofs.Common.{◌≡◌, ℕ, suc, ◌+◌, ◌-◌, ◌<◌, min, Bool, true, false, cond, List, [], ◌∷◌, ◌++◌, length, take, drop, get_or, refl, sym, ap, ◌∙◌, arith, length-append, length-take, length-drop}
-use Rattle.std.specs.Prelude.{not, ◌==◌, ◌&&◌}
-use Rattle.std.specs.List.{list_all, prefix_len, suffix_len}
-use Rattle.std.proofs.lemmas.Bool.{and_from, and_parts, false≢true, not-true, false_from_ne_true}
-use Rattle.std.proofs.lemmas.List.{take_all, append-nil}
-use Rattle.std.proofs.lemmas.List.Folds.{list_all-append}
-use Rattle.std.proofs.lemmas.List.Sums.{suffix_len-le-length, suffix_len-take_no, suffix_len-take_yes}
+use Rattle.std.proofs.Common.{◌≡◌, ℕ, suc, ◌+◌, ◌-◌, ◌<◌, min, Bool, true, false, cond, List, [], ◌∷◌, ◌++◌, length}
+use Rattle.std.proofs.Common.{take, drop, get_or, refl, sym, ap, ◌∙◌, arith, length-append, length-take, length-drop}
+use Rattle.std.proofs.lemmas.{Bool.{and_from, and_parts, false≢true, not-true, false_from_ne_true}, List.take_all}
+use Rattle.std.proofs.lemmas.List.{append-nil, Folds.list_all-append, Sums.{suffix_len-le-length, suffix_len-take_no}}
+use Rattle.std.{proofs.lemmas.List.Sums.suffix_len-take_yes, specs.{Prelude.{not, ◌==◌, ◌&&◌}, List.list_all}}
+use Rattle.std.specs.List.{prefix_len, suffix_len}
 use Rattle.item_terms.specs.Words.{trim, trim_end, is_blank}
-use Rattle.dirdoc_grammar.specs.Writers.{is_argument, is_argument_byte}
-use Rattle.dirdoc_grammar.specs.Writing.{IsLineRest, tail}
+use Rattle.dirdoc_grammar.specs.{Writers.{is_argument, is_argument_byte}, Writing.{IsLineRest, tail}}
 
 -- ---- outer blanks
 

@@ -1,13 +1,10 @@
 -- The items of a text put together from texts are the items one behind the other.
-use Rattle.std.proofs.Common.{◌≡◌, ℕ, suc, ◌+◌, ◌≤◌, Bool, true, false, List, [], ◌∷◌, ◌++◌, length}
-use Rattle.std.proofs.Common.{Option, Some, None, refl, sym, ap, subst, ◌∙◌, arith}
-use Rattle.std.specs.Prelude.{map, ◌==◌, if◌then◌else◌}
-use Rattle.item_terms.specs.Items.{Contents, also, contents, contents_of, proceed}
-use Rattle.item_terms.specs.Lines.{Line, lines, onto, size}
+use Rattle.std.proofs.Common.{◌≡◌, ℕ, suc, ◌+◌, ◌≤◌, Bool, true, false, List, [], ◌∷◌, ◌++◌, length, Option, Some, None}
+use Rattle.std.{proofs.Common.{refl, sym, ap, subst, ◌∙◌, arith}, specs.Prelude.{map, ◌==◌, if◌then◌else◌}}
+use Rattle.item_terms.specs.{Items.{Contents, also, contents, contents_of, proceed}, Lines.{Line, lines, onto, size}}
 use Rattle.item_terms.specs.Steps.{Item, Open, Step, nothing}
 use Rattle.dirdoc_grammar.specs.Writing.{in_front}
-use Rattle.grammar_laws.specs.Moved.{Reads, moved_item, sizes, with_whole}
-use Rattle.grammar_laws.proofs.MovedLines.{reads_moved}
+use Rattle.grammar_laws.{specs.Moved.{Reads, moved_item, sizes, with_whole}, proofs.MovedLines.reads_moved}
 
 -- lines that have no fault, and then others
 also_front : (whole : Option Item) (others : List Item) (rest : Contents)

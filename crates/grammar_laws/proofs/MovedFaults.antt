@@ -1,16 +1,11 @@
 -- Lines without a fault have none further on, under any limit that they do not pass.
-use Rattle.std.proofs.Common.{◌≡◌, ℕ, ◌+◌, ◌-◌, ◌≤◌, min, Bool, true, false, Option, Some, None}
-use Rattle.std.proofs.Common.{refl, ap, ◌∙◌, arith}
-use Rattle.std.specs.Prelude.{nat_le, nat_lt, ◌&&◌, length, if◌then◌else◌}
-use Rattle.std.proofs.lemmas.Bool.{leb-true, le-leb, ltb-false, ltb-true}
-use Rattle.item_terms.specs.declared.fault.DocFault.{DocFault}
-use Rattle.item_terms.specs.declared.fault.DocReason.TheVariants.{ObjectTooLong}
-use Rattle.item_terms.specs.declared.fault.DocReason.TheVariants.{DocumentTooLong, LineTooLong}
-use Rattle.item_terms.specs.declared.fault.DocReason.TheVariants.{Unterminated}
-use Rattle.item_terms.specs.Faults.{at, line_fault, max_line, max_object, nul_fault, object_line_fault, or_else}
-use Rattle.item_terms.specs.Faults.{too_long, unterminated_fault}
-use Rattle.item_terms.specs.Lines.{Line, size}
-use Rattle.item_terms.specs.Words.{nul_in}
+use Rattle.std.proofs.Common.{◌≡◌, ℕ, ◌+◌, ◌-◌, ◌≤◌, min, Bool, true, false, Option, Some, None, refl, ap, ◌∙◌, arith}
+use Rattle.std.{proofs.lemmas.Bool.{leb-true, le-leb, ltb-false, ltb-true}, specs.Prelude.{nat_le, nat_lt, ◌&&◌}}
+use Rattle.std.specs.Prelude.{length, if◌then◌else◌}
+use Rattle.item_terms.specs.declared.fault.{DocFault.DocFault, DocReason.TheVariants.{ObjectTooLong, DocumentTooLong}}
+use Rattle.item_terms.specs.{declared.fault.DocReason.TheVariants.{LineTooLong, Unterminated}, Faults.{at, line_fault}}
+use Rattle.item_terms.specs.Faults.{max_line, max_object, nul_fault, object_line_fault, or_else, too_long}
+use Rattle.item_terms.specs.{Faults.unterminated_fault, Lines.{Line, size}, Words.nul_in}
 
 pub none_of : (a b : Option DocFault) → or_else a b ≡ None → (a ≡ None) × (b ≡ None)
 none_of None b e = (refl, e)

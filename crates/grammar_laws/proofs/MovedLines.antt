@@ -1,17 +1,15 @@
 -- Lines without a fault make the same items further on, under any limit that they do not pass.
-use Rattle.std.proofs.Common.{◌≡◌, ℕ, ◌+◌, ◌≤◌, Bool, true, false, List, [], ◌∷◌, Option, Some, None}
-use Rattle.std.proofs.Common.{Result, Ok, Err, refl, sym, ap, subst, ◌∙◌, arith}
-use Rattle.std.specs.Prelude.{nat_lt, map, option_map, if◌then◌else◌}
-use Rattle.item_terms.specs.declared.fault.DocFault.{DocFault}
-use Rattle.item_terms.specs.declared.fault.DocReason.TheVariants.{Keyword, ObjectBase64, ObjectEnd, ObjectTooLong}
-use Rattle.item_terms.specs.Base64Text.{is_body}
-use Rattle.item_terms.specs.Faults.{at, line_fault, max_object, object_line_fault}
-use Rattle.item_terms.specs.Lines.{Line, size}
+use Rattle.std.proofs.Common.{◌≡◌, ℕ, ◌+◌, ◌≤◌, Bool, true, false, List, [], ◌∷◌, Option, Some, None, Result, Ok, Err}
+use Rattle.std.{proofs.Common.{refl, sym, ap, subst, ◌∙◌, arith}, specs.Prelude.{nat_lt, map, option_map}}
+use Rattle.std.specs.Prelude.{if◌then◌else◌}
+use Rattle.item_terms.specs.declared.fault.{DocFault.DocFault, DocReason.TheVariants.{Keyword, ObjectBase64, ObjectEnd}}
+use Rattle.item_terms.specs.{declared.fault.DocReason.TheVariants.ObjectTooLong, Base64Text.is_body, Faults.at}
+use Rattle.item_terms.specs.{Faults.{line_fault, max_object, object_line_fault}, Lines.{Line, size}}
 use Rattle.item_terms.specs.Words.{argument_start, arguments, begin_words, is_blank_line, is_end_line, is_keyword_line}
-use Rattle.item_terms.specs.Words.{keyword, separator}
-use Rattle.item_terms.specs.Steps.{Item, Object, Open, Step, begun_object, first_object_line, item_unless, keyword_item}
-use Rattle.item_terms.specs.Steps.{keyword_line, line_item, nothing, object_lines, object_step, open_item, open_unless}
-use Rattle.item_terms.specs.Steps.{read_line, starts_dash, step, step_unless, with_line, with_object}
+use Rattle.item_terms.specs.{Words.{keyword, separator}, Steps.{Item, Object, Open, Step, begun_object}}
+use Rattle.item_terms.specs.Steps.{first_object_line, item_unless, keyword_item, keyword_line, line_item, nothing}
+use Rattle.item_terms.specs.Steps.{object_lines, object_step, open_item, open_unless, read_line, starts_dash, step}
+use Rattle.item_terms.specs.Steps.{step_unless, with_line, with_object}
 use Rattle.grammar_laws.specs.Moved.{Reads, moved_item, moved_object, moved_open, sizes, with_whole}
 use Rattle.grammar_laws.proofs.MovedFaults.{object_sound_moved, sound_moved}
 

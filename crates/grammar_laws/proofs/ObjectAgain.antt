@@ -1,24 +1,21 @@
 -- An object that was written is read again, whatever follows it.
-use Rattle.std.proofs.Common.{◌≡◌, ℕ, zero, suc, ◌+◌, ◌-◌, ◌≤◌, Bool, true, false, cond, List, [], ◌∷◌, ◌++◌, length, take, drop, Option, Some, None, Ok, Err, refl, sym, ap, subst, ◌∙◌, append_assoc, arith, length-take}
-use Rattle.std.specs.Prelude.{◌&&◌, min, nat_lt}
+use Rattle.std.proofs.Common.{◌≡◌, ℕ, zero, suc, ◌+◌, ◌-◌, ◌≤◌, Bool, true, false, cond, List, [], ◌∷◌, ◌++◌, length}
+use Rattle.std.proofs.Common.{take, drop, Option, Some, None, Ok, Err, refl, sym, ap, subst, ◌∙◌, append_assoc, arith}
+use Rattle.std.proofs.{Common.length-take, lemmas.{Bool.{and_parts, le-ltb}, List.{append-nil, length-append}}}
+use Rattle.std.{proofs.{lemmas.List.length-drop, Math.Bool.and-false}, specs.Prelude.{◌&&◌, min, nat_lt}}
 use Rattle.std.specs.List.{list_all}
-use Rattle.std.proofs.lemmas.Bool.{and_parts, le-ltb}
-use Rattle.std.proofs.lemmas.List.{append-nil, length-append, length-drop}
-use Rattle.std.proofs.Math.Bool.{and-false}
 use Rattle.base64.specs.GeneralPurpose.{IsBytes}
-use Rattle.item_terms.specs.declared.fault.DocFault.{DocFault}
-use Rattle.item_terms.specs.declared.fault.DocReason.TheVariants.{ObjectBase64, ObjectEnd, ObjectTooLong}
-use Rattle.item_terms.specs.Lines.{Line}
-use Rattle.item_terms.specs.Words.{are_words, begin_words, begins_dash}
-use Rattle.item_terms.specs.Base64Text.{is_body}
-use Rattle.item_terms.specs.Faults.{at, line_fault, max_line, max_object, object_line_fault}
-use Rattle.item_terms.specs.Steps.{Item, Object, Step, step_unless, nothing, keyword_line, object_lines, begun_object, first_object_line, object_step, open_unless, with_line, with_object}
-use Rattle.item_terms.specs.Items.{contents, also}
+use Rattle.item_terms.specs.declared.fault.{DocFault.DocFault, DocReason.TheVariants.{ObjectBase64, ObjectEnd}}
+use Rattle.item_terms.specs.{declared.fault.DocReason.TheVariants.ObjectTooLong, Lines.Line, Words.are_words}
+use Rattle.item_terms.specs.{Words.{begin_words, begins_dash}, Base64Text.is_body, Faults.{at, line_fault, max_line}}
+use Rattle.item_terms.specs.{Faults.{max_object, object_line_fault}, Steps.{Item, Object, Step, step_unless, nothing}}
+use Rattle.item_terms.specs.Steps.{keyword_line, object_lines, begun_object, first_object_line, object_step}
+use Rattle.item_terms.specs.{Steps.{open_unless, with_line, with_object}, Items.{contents, also}}
 use Rattle.dirdoc_grammar.specs.Bodies.{begin_line, body_text, end_line, in_lines, object_text, base64_of}
-use Rattle.dirdoc_grammar.proofs.BodyLines.{first_of_lines}
-use Rattle.grammar_laws.proofs.RoundTrip.{MayStand, read_over, sound_line}
-use Rattle.dirdoc_grammar.proofs.Symbols.{base64_symbols, is_symbol}
-use Rattle.grammar_laws.proofs.WrittenBytes.{all_taken, avoids, begin_bytes, begin_words-begin_line, body_is_body, differs, end_bytes, ends_object, is_words_byte}
+use Rattle.dirdoc_grammar.proofs.{BodyLines.first_of_lines, Symbols.{base64_symbols, is_symbol}}
+use Rattle.grammar_laws.proofs.{RoundTrip.{MayStand, read_over, sound_line}, WrittenBytes.{all_taken, avoids}}
+use Rattle.grammar_laws.proofs.WrittenBytes.{begin_bytes, begin_words-begin_line, body_is_body, differs, end_bytes}
+use Rattle.grammar_laws.proofs.WrittenBytes.{ends_object, is_words_byte}
 
 -- the line with its NL
 abbrev pub ended_line : List ℕ → Line

@@ -1,14 +1,13 @@
 -- A front of the lines with the items of it, and what the lines so far have opened.
-use Rattle.std.proofs.Common.{◌≡◌, ℕ, ◌+◌, Bool, false, List, [], ◌∷◌, ◌++◌, Option, Some, None, refl, sym, ap, subst, ◌∙◌, append_assoc, arith}
-use Rattle.std.specs.Prelude.{◌&&◌}
-use Rattle.item_terms.specs.declared.fault.DocFault.{DocFault}
-use Rattle.item_terms.specs.Lines.{Line, lines, size}
-use Rattle.item_terms.specs.Words.{is_keyword_line}
+use Rattle.std.proofs.Common.{◌≡◌, ℕ, ◌+◌, Bool, false, List, [], ◌∷◌, ◌++◌, Option, Some, None, refl, sym, ap, subst}
+use Rattle.std.{proofs.Common.{◌∙◌, append_assoc, arith}, specs.Prelude.◌&&◌}
+use Rattle.item_terms.specs.{declared.fault.DocFault.DocFault, Lines.{Line, lines, size}, Words.is_keyword_line}
 use Rattle.item_terms.specs.Steps.{Item, Open, Object, nothing, keyword_line, object_lines, keyword_item}
 use Rattle.item_terms.specs.Items.{Contents, also, failed_contents}
 use Rattle.grammar_laws.proofs.BlockLines.{sizes_append, and_false, blank_apart, item_apart}
-use Rattle.grammar_laws.specs.BlockFaults.{HasFault, begin_with_dash, end_in_keyword_line}
-use Rattle.grammar_laws.specs.Blocks.{sizes, text_of, IsBlankLine, IsKeywordLine, IsBeginLine, AreBodyLines, AreLinesOfItem, AreLinesOfItems}
+use Rattle.grammar_laws.specs.{BlockFaults.{HasFault, begin_with_dash, end_in_keyword_line}, Blocks.{sizes, text_of}}
+use Rattle.grammar_laws.specs.Blocks.{IsBlankLine, IsKeywordLine, IsBeginLine, AreBodyLines, AreLinesOfItem}
+use Rattle.grammar_laws.specs.Blocks.{AreLinesOfItems}
 
 -- ---- a front of the lines, of which there are these items
 

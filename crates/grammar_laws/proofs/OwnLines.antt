@@ -1,11 +1,8 @@
 -- The lines of a text's own part: those that were cut, and what they hold alone.
-use Rattle.std.proofs.Common.{◌≡◌, ℕ, suc, ◌+◌, Bool, true, false, List, [], ◌∷◌, ◌++◌, take, None, refl, sym, ap}
-use Rattle.std.proofs.Common.{◌∙◌, arith, append-nil}
-use Rattle.std.specs.Prelude.{◌==◌, if◌then◌else◌}
-use Rattle.item_terms.specs.Items.{Item, contents_of, nothing}
-use Rattle.item_terms.specs.Lines.{Line, lines, onto, size}
-use Rattle.grammar_laws.specs.Moved.{Reads, sizes}
-use Rattle.grammar_laws.proofs.LinesTogether.{AllEnded, both_read}
+use Rattle.std.proofs.Common.{◌≡◌, ℕ, suc, ◌+◌, Bool, true, false, List, [], ◌∷◌, ◌++◌, take, None, refl, sym, ap, ◌∙◌}
+use Rattle.std.{proofs.Common.{arith, append-nil}, specs.Prelude.{◌==◌, if◌then◌else◌}}
+use Rattle.item_terms.specs.{Items.{Item, contents_of, nothing}, Lines.{Line, lines, onto, size}}
+use Rattle.grammar_laws.{specs.Moved.{Reads, sizes}, proofs.LinesTogether.{AllEnded, both_read}}
 
 abbrev line_or : Line → List Line → Line
 line_or other [] = other

@@ -1,31 +1,18 @@
 -- A document's own part alone is read as that document.
-use Rattle.std.proofs.Common.{inl, inr}
-use Rattle.std.proofs.Common.{◌≡◌, ℕ, ◌+◌, true, List, [], ◌∷◌, ◌++◌, length, take, Option, Some, None}
-use Rattle.std.proofs.Common.{Result, Ok, Err, refl, sym, ap, subst, ◌∙◌, arith, ◌≤◌}
-use Rattle.std.proofs.lemmas.List.{take_all}
+use Rattle.std.proofs.Common.{inl, inr, ◌≡◌, ℕ, ◌+◌, true, List, [], ◌∷◌, ◌++◌, length, take, Option, Some, None}
+use Rattle.std.proofs.{Common.{Result, Ok, Err, refl, sym, ap, subst, ◌∙◌, arith, ◌≤◌}, lemmas.List.take_all}
 use Rattle.std.specs.Prelude.{◌⊎◌, is_some}
-use Rattle.item_terms.specs.Items.{Contents, Item, contents_of, items_of, nothing}
-use Rattle.item_terms.specs.Lines.{Line, lines}
+use Rattle.item_terms.specs.{Items.{Contents, Item, contents_of, items_of, nothing}, Lines.{Line, lines}}
 use Rattle.item_terms.specs.declared.fault.DocFault.{DocFault}
-use Rattle.frame_terms.specs.Decisions.{made_by}
-use Rattle.frame_terms.specs.Documents.{Document, after_made, after_noted, at_end, closed_at, document_of, go_on}
-use Rattle.frame_terms.specs.Documents.{missing_at_end, note_of_made, onto, read_items, start, with_inner, with_next}
-use Rattle.frame_terms.specs.Documents.{with_one, without_inner}
-use Rattle.frame_terms.specs.Tables.{Tables}
-use Rattle.frame_terms.specs.declared.document.Group.{Group}
-use Rattle.frame_terms.specs.declared.document.Made.{Made}
-use Rattle.frame_terms.specs.declared.document.Made.TheVariants.{Passes, Pushes, Leaves, Ends, Opens, Enters, Stops}
-use Rattle.frame_terms.specs.declared.document.Open.{Open}
-use Rattle.frame_terms.specs.declared.fault.FrameFault.{FrameFault}
-use Rattle.frame_terms.specs.declared.fault.ReadRefusal.{ReadRefusal}
-use Rattle.frame_terms.specs.declared.keyword.Keyword.{Keyword}
-use Rattle.grammar_laws.specs.Moved.{sizes}
-use Rattle.grammar_laws.specs.Parts.{EndWithObjects, OwnPartIsReadTheSame}
-use Rattle.grammar_laws.proofs.LastLines.{cut_lines, sizes_both}
-use Rattle.grammar_laws.proofs.LinesTogether.{sizes_all}
-use Rattle.grammar_laws.proofs.OwnLines.{hold, lines_cut}
-use Rattle.grammar_laws.proofs.SoundLines.{ends_all}
-use Rattle.grammar_laws.proofs.Endings.{HasObject, IsRight, made_right}
+use Rattle.frame_terms.specs.{Decisions.made_by, Documents.{Document, after_made, after_noted, at_end, closed_at}}
+use Rattle.frame_terms.specs.Documents.{document_of, go_on, missing_at_end, note_of_made, onto, read_items, start}
+use Rattle.frame_terms.specs.{Documents.{with_inner, with_next, with_one, without_inner}, Tables.Tables}
+use Rattle.frame_terms.specs.declared.document.{Group.Group, Made.{Made, TheVariants.{Passes, Pushes, Leaves, Ends}}}
+use Rattle.frame_terms.specs.declared.document.{Made.TheVariants.{Opens, Enters, Stops}, Open.Open}
+use Rattle.frame_terms.specs.declared.{fault.{FrameFault.FrameFault, ReadRefusal.ReadRefusal}, keyword.Keyword.Keyword}
+use Rattle.grammar_laws.{specs.{Moved.sizes, Parts.{EndWithObjects, OwnPartIsReadTheSame}}, proofs.LastLines.cut_lines}
+use Rattle.grammar_laws.proofs.{LastLines.sizes_both, LinesTogether.sizes_all, OwnLines.{hold, lines_cut}}
+use Rattle.grammar_laws.proofs.{SoundLines.ends_all, Endings.{HasObject, IsRight, made_right}}
 
 -- ---- the items up to the end
 

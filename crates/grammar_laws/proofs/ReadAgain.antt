@@ -1,14 +1,11 @@
 -- Items that were written are read again.
-use Rattle.std.proofs.Common.{◌≡◌, ℕ, ◌+◌, ◌≤◌, Bool, true, false, List, [], ◌∷◌, ◌++◌, length, drop, refl, sym, ap, ◌∙◌}
-use Rattle.std.specs.Prelude.{◌&&◌, All, Option, Some, None, IfSome}
-use Rattle.std.proofs.lemmas.List.{append-nil}
-use Rattle.std.proofs.lemmas.List.Elements.{All-head, All-tail}
-use Rattle.item_terms.specs.Items.{Contents, contents, items_from, nothing}
-use Rattle.item_terms.specs.Faults.{max_object}
-use Rattle.dirdoc_grammar.specs.Bodies.{object_text}
-use Rattle.dirdoc_grammar.specs.Writing.{AreWritable, IsWritableObject, NewItem, NewObject, all_written, in_front, is_open, item_text, items_text}
-use Rattle.grammar_laws.proofs.ItemsAgain.{items_again}
-use Rattle.grammar_laws.specs.Written.{AreWithinLimits, HasItems, IsItem, IsObject}
+use Rattle.std.proofs.Common.{◌≡◌, ℕ, ◌+◌, ◌≤◌, Bool, true, false, List, [], ◌∷◌, ◌++◌, length, drop, refl, sym, ap}
+use Rattle.std.{proofs.{Common.◌∙◌, lemmas.List.{append-nil, Elements.{All-head, All-tail}}}, specs.Prelude.{◌&&◌, All}}
+use Rattle.std.specs.Prelude.{Option, Some, None, IfSome}
+use Rattle.item_terms.specs.{Items.{Contents, contents, items_from, nothing}, Faults.max_object}
+use Rattle.dirdoc_grammar.specs.{Bodies.object_text, Writing.{AreWritable, IsWritableObject, NewItem, NewObject}}
+use Rattle.dirdoc_grammar.specs.Writing.{all_written, in_front, is_open, item_text, items_text}
+use Rattle.grammar_laws.{proofs.ItemsAgain.items_again, specs.Written.{AreWithinLimits, HasItems, IsItem, IsObject}}
 
 -- an object that passes no limit may be written
 writable_object : (object : Option NewObject) → IfSome object IsObject → IfSome object (λ o. length (object_text o.words o.bytes) ≤ max_object) → IfSome object IsWritableObject

@@ -1,21 +1,20 @@
 -- A keyword line that was written is read again, and a line whose step is known is read with what follows it.
-use Rattle.std.proofs.Common.{◌≡◌, ℕ, suc, ◌+◌, ◌-◌, ◌<◌, ◌≤◌, Bool, true, false, cond, leb, ltb, List, [], ◌∷◌, ◌++◌, length, take, drop, Option, Some, None, Result, Ok, Err, refl, sym, ap, ◌∙◌, append_assoc, arith}
-use Rattle.std.specs.Prelude.{slice_get, min, not, ◌==◌, ◌&&◌}
-use Rattle.std.specs.List.{prefix_len, list_all}
-use Rattle.std.proofs.lemmas.Bool.{le-leb, lt-ltb, le-ltb, false≢true}
-use Rattle.std.proofs.lemmas.Bool.Decides.{nat_tests}
-use Rattle.std.proofs.lemmas.List.{take_at, drop_at, length-append, append-nil}
-use Rattle.item_terms.specs.declared.fault.DocFault.{DocFault}
-use Rattle.item_terms.specs.declared.fault.DocReason.TheVariants.{Keyword, LineTooLong, DocumentTooLong}
-use Rattle.item_terms.specs.Lines.{Line, size}
-use Rattle.item_terms.specs.Words.{argument_start, is_blank, is_word_byte, is_letter_or_digit, keyword, keyword_len, after_keyword, separator, arguments, trim, trim_end, first_is, ends_or_blank, is_keyword_line, is_blank_line, nul_in, begins_dash, begin_words}
-use Rattle.item_terms.specs.Faults.{line_fault, too_long, nul_fault, or_else, at, max_line}
-use Rattle.item_terms.specs.Steps.{keyword_item, Item, Open, Step, step, nothing, keyword_line, open_item, item_unless, open_unless, read_line, line_item, first_object_line}
-use Rattle.item_terms.specs.Items.{Contents, contents, contents_of, also, proceed}
-use Rattle.dirdoc_grammar.specs.Writing.{tail, IsKeyword}
-use Rattle.dirdoc_grammar.specs.Reading.{first_line, first_line_len}
-use Rattle.dirdoc_grammar.proofs.FirstLine.{at_first}
-use Rattle.dirdoc_grammar.proofs.LineSteps.{first_dash}
+use Rattle.std.proofs.Common.{◌≡◌, ℕ, suc, ◌+◌, ◌-◌, ◌<◌, ◌≤◌, Bool, true, false, cond, leb, ltb, List, [], ◌∷◌, ◌++◌}
+use Rattle.std.proofs.Common.{length, take, drop, Option, Some, None, Result, Ok, Err, refl, sym, ap, ◌∙◌, append_assoc}
+use Rattle.std.proofs.{Common.arith, lemmas.Bool.{le-leb, lt-ltb, le-ltb, false≢true, Decides.nat_tests}}
+use Rattle.std.{proofs.lemmas.List.{take_at, drop_at, length-append, append-nil}, specs.Prelude.{slice_get, min, not}}
+use Rattle.std.specs.{Prelude.{◌==◌, ◌&&◌}, List.{prefix_len, list_all}}
+use Rattle.item_terms.specs.declared.fault.{DocFault.DocFault, DocReason.TheVariants.{Keyword, LineTooLong}}
+use Rattle.item_terms.specs.{declared.fault.DocReason.TheVariants.DocumentTooLong, Lines.{Line, size}}
+use Rattle.item_terms.specs.Words.{argument_start, is_blank, is_word_byte, is_letter_or_digit, keyword, keyword_len}
+use Rattle.item_terms.specs.Words.{after_keyword, separator, arguments, trim, trim_end, first_is, ends_or_blank}
+use Rattle.item_terms.specs.Words.{is_keyword_line, is_blank_line, nul_in, begins_dash, begin_words}
+use Rattle.item_terms.specs.{Faults.{line_fault, too_long, nul_fault, or_else, at, max_line}, Steps.keyword_item}
+use Rattle.item_terms.specs.Steps.{Item, Open, Step, step, nothing, keyword_line, open_item, item_unless, open_unless}
+use Rattle.item_terms.specs.{Steps.{read_line, line_item, first_object_line}, Items.{Contents, contents, contents_of}}
+use Rattle.item_terms.specs.Items.{also, proceed}
+use Rattle.dirdoc_grammar.specs.{Writing.{tail, IsKeyword}, Reading.{first_line, first_line_len}}
+use Rattle.dirdoc_grammar.proofs.{FirstLine.at_first, LineSteps.first_dash}
 
 -- the item of a line that has this keyword and these arguments, without an object
 abbrev pub written_item : ℕ → List ℕ → List ℕ → Item

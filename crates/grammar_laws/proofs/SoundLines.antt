@@ -1,23 +1,17 @@
 -- Lines without a fault end with their NL, within the limit, and so do the items that they make.
-use Rattle.std.proofs.Common.{◌≡◌, ℕ, ◌+◌, ◌-◌, ◌≤◌, min, Bool, true, false, List, [], ◌∷◌, length, Option, Some}
-use Rattle.std.proofs.Common.{None, Result, Ok, Err, refl, sym, ap, subst, arith}
-use Rattle.std.specs.Prelude.{nat_lt, ◌&&◌, ◌==◌, if◌then◌else◌}
-use Rattle.std.specs.List.{AllByRecursion}
-use Rattle.item_terms.specs.declared.fault.DocFault.{DocFault}
-use Rattle.item_terms.specs.declared.fault.DocReason.TheVariants.{ObjectTooLong, Unterminated, Keyword}
-use Rattle.item_terms.specs.Base64Text.{is_body}
-use Rattle.item_terms.specs.Faults.{at, line_fault, max_line, max_object, nul_fault, object_line_fault, or_else}
-use Rattle.item_terms.specs.Faults.{too_long, unterminated_fault}
-use Rattle.item_terms.specs.Lines.{Line, lines, onto, size}
-use Rattle.item_terms.specs.Words.{begin_words, is_blank_line, is_end_line, is_keyword_line, nul_in}
-use Rattle.item_terms.specs.Steps.{Item, Object, Open, Step, first_object_line, begun_object, item_unless, keyword_item}
-use Rattle.item_terms.specs.Steps.{keyword_line, line_item, nothing, object_lines, object_step, open_item, open_unless}
-use Rattle.item_terms.specs.Steps.{read_line, starts_dash, step, step_unless}
-use Rattle.grammar_laws.specs.Moved.{Reads, sizes, with_whole}
-use Rattle.grammar_laws.proofs.LinesTogether.{AllEnded}
-use Rattle.grammar_laws.proofs.LastLines.{AllSome}
-use Rattle.grammar_laws.proofs.MovedFaults.{none_of, short}
-use Rattle.grammar_laws.proofs.MovedLines.{not_faulty, object_made, after_line}
+use Rattle.std.proofs.Common.{◌≡◌, ℕ, ◌+◌, ◌-◌, ◌≤◌, min, Bool, true, false, List, [], ◌∷◌, length, Option, Some, None}
+use Rattle.std.{proofs.Common.{Result, Ok, Err, refl, sym, ap, subst, arith}, specs.Prelude.{nat_lt, ◌&&◌, ◌==◌}}
+use Rattle.std.specs.{Prelude.if◌then◌else◌, List.AllByRecursion}
+use Rattle.item_terms.specs.declared.fault.{DocFault.DocFault, DocReason.TheVariants.{ObjectTooLong, Unterminated}}
+use Rattle.item_terms.specs.{declared.fault.DocReason.TheVariants.Keyword, Base64Text.is_body, Faults.{at, line_fault}}
+use Rattle.item_terms.specs.Faults.{max_line, max_object, nul_fault, object_line_fault, or_else, too_long}
+use Rattle.item_terms.specs.{Faults.unterminated_fault, Lines.{Line, lines, onto, size}, Words.begin_words}
+use Rattle.item_terms.specs.{Words.{is_blank_line, is_end_line, is_keyword_line, nul_in}, Steps.{Item, Object, Open}}
+use Rattle.item_terms.specs.Steps.{Step, first_object_line, begun_object, item_unless, keyword_item, keyword_line}
+use Rattle.item_terms.specs.Steps.{line_item, nothing, object_lines, object_step, open_item, open_unless, read_line}
+use Rattle.item_terms.specs.Steps.{starts_dash, step, step_unless}
+use Rattle.grammar_laws.{specs.Moved.{Reads, sizes, with_whole}, proofs.{LinesTogether.AllEnded, LastLines.AllSome}}
+use Rattle.grammar_laws.proofs.{MovedFaults.{none_of, short}, MovedLines.{not_faulty, object_made, after_line}}
 
 read_sound : (limit place : ℕ) (line : Line) (next : Open) → open_item (read_line limit place line) ≡ Ok next
     → line_fault limit place line ≡ None

@@ -1,22 +1,16 @@
 -- The rests of lines and the objects of items lie within the lines that make them.
-use Rattle.std.proofs.Common.{◌≡◌, ℕ, ◌+◌, ◌-◌, ◌≤◌, Bool, true, false, List, [], ◌∷◌, ◌++◌, length}
-use Rattle.std.proofs.Common.{Option, Some, None, Result, Ok, Err, sym, ap, subst, arith, length-append}
-use Rattle.std.proofs.Common.{length-take, length-drop}
-use Rattle.std.specs.Prelude.{IfSome, nat_lt, if◌then◌else◌}
+use Rattle.std.proofs.Common.{◌≡◌, ℕ, ◌+◌, ◌-◌, ◌≤◌, Bool, true, false, List, [], ◌∷◌, ◌++◌, length, Option, Some, None}
+use Rattle.std.proofs.Common.{Result, Ok, Err, sym, ap, subst, arith, length-append, length-take, length-drop}
+use Rattle.std.{proofs.lemmas.List.Sums.prefix_len-le-length, specs.Prelude.{IfSome, nat_lt, if◌then◌else◌}}
 use Rattle.std.specs.List.{AllByRecursion, prefix_len, suffix_len}
-use Rattle.std.proofs.lemmas.List.Sums.{prefix_len-le-length}
-use Rattle.item_terms.specs.declared.fault.DocFault.{DocFault}
-use Rattle.item_terms.specs.declared.fault.DocReason.TheVariants.{ObjectTooLong, Keyword}
-use Rattle.item_terms.specs.Base64Text.{is_body}
-use Rattle.item_terms.specs.Faults.{at, line_fault, max_object, object_line_fault}
-use Rattle.item_terms.specs.Lines.{Line, size}
-use Rattle.item_terms.specs.Words.{after_keyword, begin_words, is_blank, is_blank_line}
-use Rattle.item_terms.specs.Words.{is_end_line, is_keyword_line, is_word_byte, keyword_len, trim, trim_front}
-use Rattle.item_terms.specs.Steps.{Item, Object, Open, Step, begun_object, first_object_line, item_unless, keyword_item}
-use Rattle.item_terms.specs.Steps.{keyword_line, line_item, nothing, object_lines, object_step, open_item, open_unless}
-use Rattle.item_terms.specs.Steps.{read_line, starts_dash, step, step_unless}
-use Rattle.grammar_laws.specs.Moved.{Reads, sizes, with_whole}
-use Rattle.grammar_laws.proofs.MovedLines.{after_line, object_made}
+use Rattle.item_terms.specs.declared.fault.{DocFault.DocFault, DocReason.TheVariants.{ObjectTooLong, Keyword}}
+use Rattle.item_terms.specs.{Base64Text.is_body, Faults.{at, line_fault, max_object, object_line_fault}, Lines.Line}
+use Rattle.item_terms.specs.{Lines.size, Words.{after_keyword, begin_words, is_blank, is_blank_line, is_end_line}}
+use Rattle.item_terms.specs.{Words.{is_keyword_line, is_word_byte, keyword_len, trim, trim_front}, Steps.{Item, Object}}
+use Rattle.item_terms.specs.Steps.{Open, Step, begun_object, first_object_line, item_unless, keyword_item, keyword_line}
+use Rattle.item_terms.specs.Steps.{line_item, nothing, object_lines, object_step, open_item, open_unless, read_line}
+use Rattle.item_terms.specs.Steps.{starts_dash, step, step_unless}
+use Rattle.grammar_laws.{specs.Moved.{Reads, sizes, with_whole}, proofs.MovedLines.{after_line, object_made}}
 use Rattle.grammar_laws.proofs.SoundLines.{has_end, step_sound}
 
 -- an item lies within so many bytes

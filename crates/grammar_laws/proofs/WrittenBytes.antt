@@ -1,19 +1,16 @@
 -- The bytes of an object that is written: its lines are base64 of 64 characters, and its first and last line say its words.
-use Rattle.std.proofs.Common.{◌≡◌, ℕ, ◌+◌, ◌-◌, ◌<◌, Bool, true, false, cond, List, [], ◌∷◌, ◌++◌, length, take, drop, Option, Some, None, Result, Ok, refl, sym, ap, ◌∙◌, arith}
-use Rattle.std.specs.Prelude.{◌==◌, nat_le, nat_eq, not, ◌&&◌, ◌||◌, is_ok, option_and_then}
-use Rattle.std.specs.List.{list_all}
+use Rattle.std.proofs.Common.{◌≡◌, ℕ, ◌+◌, ◌-◌, ◌<◌, Bool, true, false, cond, List, [], ◌∷◌, ◌++◌, length, take, drop}
+use Rattle.std.proofs.{Common.{Option, Some, None, Result, Ok, refl, sym, ap, ◌∙◌, arith}, lemmas.Bool.and_parts}
+use Rattle.std.proofs.lemmas.{Bool.{eq-eqb, eqb-true, false≢true, le-leb}, List.{drop_at, length-append}}
+use Rattle.std.proofs.{lemmas.List.{take-append-drop, take_at, Folds.list_all-append}, Math.Bool.or-true}
+use Rattle.std.specs.{Prelude.{◌==◌, nat_le, nat_eq, not, ◌&&◌, ◌||◌, is_ok, option_and_then}, List.list_all}
 use Rattle.std.specs.Result.{result_ok}
-use Rattle.std.proofs.lemmas.Bool.{and_parts, eq-eqb, eqb-true, false≢true, le-leb}
-use Rattle.std.proofs.lemmas.List.{drop_at, length-append, take-append-drop, take_at}
-use Rattle.std.proofs.lemmas.List.Folds.{list_all-append}
-use Rattle.std.proofs.Math.Bool.{or-true}
 use lib.Pointwise.{bytes_decides, pointwise}
-use Rattle.base64.specs.declared.decode.DecodeError.{DecodeError}
-use Rattle.base64.specs.Engines.{standard}
-use Rattle.base64.specs.GeneralPurpose.{IsBytes, decode_of}
+use Rattle.base64.specs.{declared.decode.DecodeError.DecodeError, Engines.standard, GeneralPurpose.{IsBytes, decode_of}}
 use Rattle.base64.proofs.EngineFacts.{decode_of-encode_of}
-use Rattle.item_terms.specs.Base64Text.{is_base64, is_body, is_inside, joined_text, lines_fit}
-use Rattle.item_terms.specs.Words.{are_words, begin_words, begins, dashes, ends, if_words, is_dashes, is_end_line, is_word_byte, strip, strip_end}
+use Rattle.item_terms.specs.{Base64Text.{is_base64, is_body, is_inside, joined_text, lines_fit}, Words.are_words}
+use Rattle.item_terms.specs.Words.{begin_words, begins, dashes, ends, if_words, is_dashes, is_end_line, is_word_byte}
+use Rattle.item_terms.specs.Words.{strip, strip_end}
 use Rattle.dirdoc_grammar.specs.Bodies.{base64_of, begin_line, body_text, decoded_bytes, end_line, in_lines}
 use Rattle.dirdoc_grammar.proofs.Symbols.{base64_symbols, is_symbol}
 

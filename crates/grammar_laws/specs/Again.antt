@@ -1,10 +1,9 @@
 -- Items and objects that were written are read again (dir-spec, meta-format).
 use Rattle.std.specs.Prelude.{◌≡◌, ℕ, ◌+◌, false, ◌&&◌, List, ◌++◌, length, Some}
 use Rattle.base64.specs.GeneralPurpose.{IsBytes}
-use Rattle.item_terms.specs.Words.{begins_dash}
-use Rattle.item_terms.specs.Items.{contents, nothing}
-use Rattle.dirdoc_grammar.specs.Bodies.{body_text, decoded_bytes}
-use Rattle.dirdoc_grammar.specs.Writing.{AreWritable, NewItem, all_written, in_front, is_open, items_text}
+use Rattle.item_terms.specs.{Words.begins_dash, Items.{contents, nothing}}
+use Rattle.dirdoc_grammar.specs.{Bodies.{body_text, decoded_bytes}, Writing.{AreWritable, NewItem, all_written}}
+use Rattle.dirdoc_grammar.specs.Writing.{in_front, is_open, items_text}
 
 -- Items that were written are the first that are read, and what follows them is read as it would be alone, unless an object
 -- may follow and the next byte is '-'.

@@ -1,13 +1,12 @@
 -- A document that has a fault, by its lines: those of the items before it, and then those that have the fault.
 use Rattle.std.specs.Prelude.{◌≡◌, ◌↔◌, ℕ, ◌+◌, ◌<◌, Bool, true, false, ◌&&◌, List, [], ◌∷◌, ◌++◌, drop, Some, None}
-use Rattle.item_terms.specs.declared.fault.DocFault.{DocFault}
-use Rattle.item_terms.specs.declared.fault.DocReason.TheVariants.{Keyword, ObjectWords, ObjectTooLong, ObjectEnd, ObjectBase64, Unterminated}
-use Rattle.item_terms.specs.Lines.{Line, lines, size}
-use Rattle.item_terms.specs.Words.{is_blank_line, is_keyword_line, begins_dash, begin_words, is_end_line}
-use Rattle.item_terms.specs.Base64Text.{is_body}
-use Rattle.item_terms.specs.Faults.{at, line_fault, object_line_fault, max_object}
-use Rattle.item_terms.specs.Items.{Item, items_from}
-use Rattle.grammar_laws.specs.Blocks.{sizes, text_of, IsKeywordLine, IsBeginLine, IsEndLine, AreBodyLines, AreLinesOfItems}
+use Rattle.item_terms.specs.declared.fault.{DocFault.DocFault, DocReason.TheVariants.{Keyword, ObjectWords}}
+use Rattle.item_terms.specs.declared.fault.DocReason.TheVariants.{ObjectTooLong, ObjectEnd, ObjectBase64, Unterminated}
+use Rattle.item_terms.specs.{Lines.{Line, lines, size}, Words.{is_blank_line, is_keyword_line, begins_dash}}
+use Rattle.item_terms.specs.{Words.{begin_words, is_end_line}, Base64Text.is_body, Faults.{at, line_fault}}
+use Rattle.item_terms.specs.{Faults.{object_line_fault, max_object}, Items.{Item, items_from}}
+use Rattle.grammar_laws.specs.Blocks.{sizes, text_of, IsKeywordLine, IsBeginLine, IsEndLine, AreBodyLines}
+use Rattle.grammar_laws.specs.Blocks.{AreLinesOfItems}
 
 -- the fault of a line between items: the line is not sound, or it is neither a blank line nor a keyword line
 pub data IsFaultBetween (limit place : ℕ) (line : Line) (fault : DocFault) : Type 0 where

@@ -1,11 +1,10 @@
 -- A document by its lines (dir-spec, meta-format): it is a list of items, and there may be blank lines before, between and
 -- after them. An item is a keyword line and at most one object, which begins on the very next line.
 use Rattle.std.specs.Prelude.{◌≡◌, ℕ, ◌+◌, ◌≤◌, true, false, List, [], ◌∷◌, ◌++◌, drop, Option, Some, None}
-use Rattle.item_terms.specs.Lines.{Line, lines, size}
-use Rattle.item_terms.specs.Words.{is_blank_line, is_keyword_line, keyword, separator, arguments, argument_start, begins_dash, begin_words, is_end_line}
-use Rattle.item_terms.specs.Base64Text.{is_body}
-use Rattle.item_terms.specs.Faults.{line_fault, object_line_fault, max_object}
-use Rattle.item_terms.specs.Items.{Item, Object, items_from}
+use Rattle.item_terms.specs.{Lines.{Line, lines, size}, Words.{is_blank_line, is_keyword_line, keyword, separator}}
+use Rattle.item_terms.specs.Words.{arguments, argument_start, begins_dash, begin_words, is_end_line}
+use Rattle.item_terms.specs.{Base64Text.is_body, Faults.{line_fault, object_line_fault, max_object}, Items.Item}
+use Rattle.item_terms.specs.Items.{Object, items_from}
 
 -- how many bytes these lines have, with their NLs
 abbrev pub sizes : List Line → ℕ

@@ -2,10 +2,9 @@
 use Rattle.std.specs.Prelude.{◌≡◌, ℕ, true, false, List, [], ◌∷◌}
 use Rattle.base64.specs.GeneralPurpose.{IsBytes}
 use Rattle.item_terms.specs.Words.{are_words}
-use Rattle.dirdoc_grammar.specs.declared.writer.Stage.TheVariants.{Between, Begun, Rested, Ended}
-use Rattle.dirdoc_grammar.specs.Bodies.{object_text}
-use Rattle.dirdoc_grammar.specs.Writers.{Draft, longer_draft, in_line, is_argument}
-use Rattle.dirdoc_grammar.specs.Writing.{IsKeyword, IsLineRest, tail}
+use Rattle.dirdoc_grammar.specs.{declared.writer.Stage.TheVariants.{Between, Begun, Rested, Ended}, Bodies.object_text}
+use Rattle.dirdoc_grammar.specs.{Writers.{Draft, longer_draft, in_line, is_argument}, Writing.{IsKeyword, IsLineRest}}
+use Rattle.dirdoc_grammar.specs.Writing.{tail}
 use Rattle.grammar_laws.specs.Written.{HasItems}
 
 -- a call of a writer: begin with a keyword, argument or rest with bytes, end, or object with words and bytes

@@ -1,13 +1,9 @@
 -- A document's own part: the bytes of the input up to where the document ends.
 use Rattle.std.specs.Prelude.{◌≡◌, ◌≢◌, ℕ, true, is_some, List, length, take, Some, Ok}
 use Rattle.item_terms.specs.Items.{Item, items_of}
-use Rattle.frame_terms.specs.declared.keyword.Keyword.{Keyword}
-use Rattle.frame_terms.specs.declared.row.Row.{Row}
+use Rattle.frame_terms.specs.{declared.{keyword.Keyword.Keyword, row.Row.Row}, Documents.{Document, document_of}}
+use Rattle.frame_terms.specs.{Order.is_keyword, Sections.row_of, Tables.Tables}
 use Rattle.frame_terms.specs.declared.section.Again.TheVariants as again
-use Rattle.frame_terms.specs.Documents.{Document, document_of}
-use Rattle.frame_terms.specs.Order.{is_keyword}
-use Rattle.frame_terms.specs.Sections.{row_of}
-use Rattle.frame_terms.specs.Tables.{Tables}
 
 module _ {S K V X : Type 0} where
   -- Documents of these tables end with their last item's object: what an item says that ends a section, it says with

@@ -1,11 +1,9 @@
 -- Items that have been written behind a text, and that they are read again (dir-spec, meta-format).
 use Rattle.std.specs.Prelude.{◌≡◌, ℕ, ◌+◌, ◌≤◌, true, List, [], ◌∷◌, ◌++◌, length, All, None, IfSome}
 use Rattle.base64.specs.GeneralPurpose.{IsBytes}
-use Rattle.item_terms.specs.Words.{are_words}
-use Rattle.item_terms.specs.Faults.{max_line, max_object}
-use Rattle.item_terms.specs.Items.{items_from}
-use Rattle.dirdoc_grammar.specs.Bodies.{object_text}
-use Rattle.dirdoc_grammar.specs.Writing.{IsKeyword, IsLineRest, NewItem, NewObject, all_written, item_text, items_text, keyword_text}
+use Rattle.item_terms.specs.{Words.are_words, Faults.{max_line, max_object}, Items.items_from}
+use Rattle.dirdoc_grammar.specs.{Bodies.object_text, Writing.{IsKeyword, IsLineRest, NewItem, NewObject, all_written}}
+use Rattle.dirdoc_grammar.specs.Writing.{item_text, items_text, keyword_text}
 
 -- ---- items
 

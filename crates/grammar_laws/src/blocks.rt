@@ -1,8 +1,7 @@
 // What the items of a document are, as laws: the lines of the text, in order, are blank lines and
 // the lines of the items.
 
-ghost use Rattle.grammar_laws.specs.Blocks.{ItemsAreThere, NoOthersAre};
-ghost use Rattle.grammar_laws.specs.BlockFaults.{FaultsAreThere};
+ghost use Rattle.grammar_laws.specs.{Blocks.{ItemsAreThere, NoOthersAre}, BlockFaults.FaultsAreThere};
 
 /// A law: where no fault is found, the lines of the text, in order, are blank lines and the lines
 /// of the items that are found; an item's are its keyword line and those of its object, if it has

@@ -1,7 +1,6 @@
 // What is written is read again, and what the calls of a writer have written.
 
-ghost use Rattle.grammar_laws.specs.Again.{ObjectsAreReadAgain, ReadsAgain};
-ghost use Rattle.grammar_laws.specs.Calls.{WritersWriteItems};
+ghost use Rattle.grammar_laws.specs.{Again.{ObjectsAreReadAgain, ReadsAgain}, Calls.WritersWriteItems};
 ghost use Rattle.grammar_laws.specs.Written.{WrittenItemsAreRead};
 
 /// A law: items that were written are read again, and what follows them is read as it would be

@@ -1,45 +1,25 @@
 -- Lists of values among the rows of any kind of document: versions of Tor, versions of protocols, params. Each suits
 -- its row, and is read as the list that it was written for.
 use Rattle.std.proofs.Common.{◌≡◌, ℕ, false, List, [], ◌∷◌, length, Option, Some, None, Result, refl, sym, ap, ◌∙◌}
-use Rattle.std.specs.Prelude.{ℤ, IfSome, map, option_map}
-use Rattle.std.proofs.lemmas.List.{length-map}
-use Rattle.dir_values.specs.Arguments.{arguments_at}
-use Rattle.dir_values.specs.declared.refusal.ValueRefusal.{ValueRefusal}
+use Rattle.std.{proofs.lemmas.List.length-map, specs.Prelude.{ℤ, IfSome, map, option_map}}
+use Rattle.dir_values.specs.{Arguments.arguments_at, declared.refusal.ValueRefusal.ValueRefusal}
 use Rattle.dirdoc_grammar.specs.Writing.{written}
-use Rattle.frame_terms.specs.Rows.{is_one, row}
-use Rattle.frame_terms.specs.Tables.{Tables}
-use Rattle.frame_terms.specs.declared.document.Taken.{Taken}
-use Rattle.frame_terms.specs.declared.keyword.Keyword.{Keyword}
+use Rattle.frame_terms.specs.{Rows.{is_one, row}, Tables.Tables, declared.document.Taken.Taken}
+use Rattle.frame_terms.specs.declared.{keyword.Keyword.Keyword, row.{Count.TheVariants.Optional, Limit.Limit, Row.Row}}
 use Rattle.frame_terms.specs.declared.keyword.Keyword.TheVariants as the
-use Rattle.frame_terms.specs.declared.row.Count.TheVariants.{Optional}
-use Rattle.frame_terms.specs.declared.row.Limit.{Limit}
-use Rattle.frame_terms.specs.declared.row.Row.{Row}
-use Rattle.frame_values.specs.Items.{bare}
-use Rattle.frame_values.specs.Lines.{rest_unless}
-use Rattle.frame_values.specs.Parts.{part}
-use Rattle.frame_values.specs.Values.{item_at, text_if, text_in}
-use Rattle.frame_values.specs.declared.found.Span.{Span}
-use Rattle.frame_values.specs.declared.values.Value.{Value}
-use Rattle.frame_laws.proofs.Both.{both_hold}
-use Rattle.frame_laws.proofs.Entries.{AlwaysSuits}
-use Rattle.frame_laws.proofs.ReadRows.{IsRead}
-use Rattle.frame_laws.proofs.RowCounts.{said_none, said_once}
-use Rattle.frame_laws.proofs.RowValues.{row_if, text_entry, text_if_said}
-use Rattle.frame_laws.proofs.SaidRows.{AreSaid, IsSaid, RowSays}
-use Rattle.frame_laws.proofs.Words.{length-arguments_at}
-use Rattle.frame_laws.proofs.WrittenItems.{rest_at, start_of}
-use Rattle.list_values.specs.declared.named.Named.{Named}
-use Rattle.list_values.specs.Params.{param_text, params_text}
-use Rattle.list_values.specs.Protocols.{protocols_text}
+use Rattle.frame_values.specs.{Items.bare, Lines.rest_unless, Parts.part, Values.{item_at, text_if, text_in}}
+use Rattle.frame_values.specs.declared.{found.Span.Span, values.Value.Value}
+use Rattle.frame_laws.proofs.{Both.both_hold, Entries.AlwaysSuits, ReadRows.IsRead, RowCounts.{said_none, said_once}}
+use Rattle.frame_laws.proofs.{RowValues.{row_if, text_entry, text_if_said}, SaidRows.{AreSaid, IsSaid, RowSays}}
+use Rattle.frame_laws.proofs.{Words.length-arguments_at, WrittenItems.{rest_at, start_of}}
+use Rattle.list_values.specs.{declared.named.Named.Named, Params.{param_text, params_text}, Protocols.protocols_text}
 use Rattle.list_values.specs.VersionLists.{versions_text}
-use Rattle.value_groups.specs.ListLines.{params_of, protocols_of, versions_of}
-use Rattle.value_groups.specs.Listed.{members_of, params_in, protocols_in, versions_in}
+use Rattle.value_groups.specs.{ListLines.{params_of, protocols_of, versions_of}, Listed.{members_of, params_in}}
+use Rattle.value_groups.specs.Listed.{protocols_in, versions_in}
 use Rattle.value_laws.specs.Ranges.{AreParamsInRange, AreProtocolsInRange, AreVersionsInRange}
-use Rattle.value_laws.proofs.ParamsAgain.{params_again, params_right, words}
-use Rattle.value_laws.proofs.ProtocolsAgain.{protocols_again, protocols_right}
-use Rattle.value_laws.proofs.VersionsAgain.{versions_again, versions_right}
-use Rattle.group_laws.specs.Lists.{some_list}
-use Rattle.group_laws.proofs.Readings.{AreFew, Reads, few_enough, suits_reading, text_at}
+use Rattle.value_laws.proofs.{ParamsAgain.{params_again, params_right, words}, ProtocolsAgain.protocols_again}
+use Rattle.value_laws.proofs.{ProtocolsAgain.protocols_right, VersionsAgain.{versions_again, versions_right}}
+use Rattle.group_laws.{specs.Lists.some_list, proofs.Readings.{AreFew, Reads, few_enough, suits_reading, text_at}}
 
 -- ---- the rows
 

@@ -1,20 +1,13 @@
 -- Kinds whose items say what is read of their lines, in any kind of document: an item that is read suits its row.
 use Rattle.std.proofs.Common.{◌≡◌, ℕ, ◌≤◌, Bool, false, length, Option, Some, None, Result, Ok, Err, refl, ap, ◌∙◌}
-use Rattle.std.proofs.Common.{arith}
-use Rattle.std.specs.Prelude.{IfSome, nat_lt, if◌then◌else◌}
+use Rattle.std.{proofs.Common.arith, specs.Prelude.{IfSome, nat_lt, if◌then◌else◌}}
 use Rattle.item_terms.specs.Items.{Item}
 use Rattle.dirdoc_grammar.specs.Writing.{written}
-use Rattle.frame_terms.specs.Rows.{limit_number, row}
-use Rattle.frame_terms.specs.Tables.{Tables}
-use Rattle.frame_terms.specs.declared.fault.FrameFault.{FrameFault}
-use Rattle.frame_terms.specs.declared.fault.FrameReason.TheVariants.{TooMany}
-use Rattle.frame_terms.specs.declared.keyword.Keyword.{Keyword}
-use Rattle.frame_terms.specs.declared.row.Count.{Count}
+use Rattle.frame_terms.specs.{Rows.{limit_number, row}, Tables.Tables, declared.fault.FrameFault.FrameFault}
+use Rattle.frame_terms.specs.declared.{fault.FrameReason.TheVariants.TooMany, keyword.Keyword.Keyword, row.Count.Count}
 use Rattle.frame_terms.specs.declared.row.Limit.{Limit}
-use Rattle.frame_values.specs.Arguments.{arguments_of, next}
-use Rattle.frame_values.specs.Faults.{at_place, too_many, unless_fault}
-use Rattle.frame_values.specs.declared.found.Span.{Span}
-use Rattle.frame_values.specs.declared.values.Value.{Value}
+use Rattle.frame_values.specs.{Arguments.{arguments_of, next}, Faults.{at_place, too_many, unless_fault}}
+use Rattle.frame_values.specs.declared.{found.Span.Span, values.Value.Value}
 use Rattle.frame_values.specs.declared.values.Value.TheVariants as value
 use Rattle.frame_laws.proofs.Entries.{AlwaysSuits, Entry, item_of}
 

@@ -1,29 +1,21 @@
 -- A line of who signed a document, and the signature, is read again, whatever algorithm it names.
-use Rattle.std.proofs.Common.{◌≡◌, ℕ, ◌+◌, ◌<◌, true, List, [], ◌∷◌, length, Option, Some, None, Ok}
-use Rattle.std.proofs.Common.{refl, ap, ◌∙◌, arith, length-append}
-use Rattle.std.specs.Prelude.{codes, option_map, if◌then◌else◌}
-use Rattle.std.proofs.lemmas.List.Elements.{All-cons}
+use Rattle.std.proofs.Common.{◌≡◌, ℕ, ◌+◌, ◌<◌, true, List, [], ◌∷◌, length, Option, Some, None, Ok, refl, ap, ◌∙◌}
+use Rattle.std.{proofs.{Common.{arith, length-append}, lemmas.List.Elements.All-cons}, specs.Prelude.codes}
+use Rattle.std.specs.Prelude.{option_map, if◌then◌else◌}
 use Rattle.item_terms.specs.Items.{Item}
 use Rattle.dir_bytes.specs.FieldTexts.{hex_text}
-use Rattle.dir_values.specs.Arguments.{Argument}
-use Rattle.dir_values.specs.Digests.{fingerprint, key_digest}
-use Rattle.dir_values.specs.Names.{algorithm}
-use Rattle.dir_values.specs.declared.algorithm.Algorithm.{Algorithm}
-use Rattle.dir_values.specs.declared.digest.Digest1.{Digest1}
-use Rattle.dir_values.specs.declared.digest.Fingerprint.{Fingerprint}
+use Rattle.dir_values.specs.{Arguments.Argument, Digests.{fingerprint, key_digest}, Names.algorithm}
+use Rattle.dir_values.specs.declared.{algorithm.Algorithm.Algorithm, digest.{Digest1.Digest1, Fingerprint.Fingerprint}}
 use Rattle.dirdoc_grammar.specs.Writing.{written}
 use Rattle.frame_terms.specs.declared.keyword.Keyword.{Keyword}
-use Rattle.frame_values.specs.Arguments.{arguments_of, front}
-use Rattle.frame_values.specs.Fields.{is_there}
-use Rattle.frame_values.specs.Items.{with_object}
+use Rattle.frame_values.specs.{Arguments.{arguments_of, front}, Fields.is_there, Items.with_object}
 use Rattle.frame_values.specs.Signatures.{after_algorithm, algorithm_if, has_words, is_space, known_signature_of}
-use Rattle.frame_values.specs.Signatures.{object_of, signature_of, signed_by}
-use Rattle.frame_values.specs.declared.found.Span.{Span}
+use Rattle.frame_values.specs.{Signatures.{object_of, signature_of, signed_by}, declared.found.Span.Span}
 use Rattle.frame_values.specs.declared.found.VoteSignature.{VoteSignature}
 use Rattle.frame_laws.proofs.Words.{AreWords, IsWord, arguments_of_words, two_words, word_of_identity}
 use Rattle.frame_laws.proofs.WrittenItems.{identity_again, key_again, lines_at, space_first, start_of, word_is_there}
-use Rattle.group_laws.specs.Again.{IsSignerInRange, SignatureLinesAreReadAgain, named_algorithm, signature_at, signature_said}
-use Rattle.group_laws.specs.Again.{signer_text}
+use Rattle.group_laws.specs.Again.{IsSignerInRange, SignatureLinesAreReadAgain, named_algorithm, signature_at}
+use Rattle.group_laws.specs.Again.{signature_said, signer_text}
 
 -- ---- items whose arguments are known
 

@@ -1,25 +1,16 @@
 -- Who an authority is, and its contact, among the rows of any kind of document: each suits its row, and is read again.
 use Rattle.std.proofs.Common.{◌≡◌, ℕ, List, [], ◌∷◌, Option, None, Ok, refl}
 use Rattle.dir_values.specs.declared.digest.Fingerprint.{Fingerprint}
-use Rattle.frame_terms.specs.Rows.{row}
-use Rattle.frame_terms.specs.Tables.{Tables}
-use Rattle.frame_terms.specs.declared.keyword.Keyword.{Keyword}
-use Rattle.frame_terms.specs.declared.keyword.Keyword.TheVariants as the
-use Rattle.frame_terms.specs.declared.row.Count.{Count}
+use Rattle.frame_terms.specs.{Rows.row, Tables.Tables, declared.{keyword.Keyword.Keyword, row.Count.Count}}
 use Rattle.frame_terms.specs.declared.row.Count.TheVariants.{Optional}
-use Rattle.frame_values.specs.Fields.{span}
-use Rattle.frame_values.specs.Lines.{rest_of, source_of}
-use Rattle.frame_values.specs.Parts.{part}
-use Rattle.frame_values.specs.declared.found.DirSource.{DirSource}
+use Rattle.frame_terms.specs.declared.keyword.Keyword.TheVariants as the
+use Rattle.frame_values.specs.{Fields.span, Lines.{rest_of, source_of}, Parts.part, declared.found.DirSource.DirSource}
 use Rattle.frame_values.specs.declared.values.Value.{Value}
 use Rattle.frame_values.specs.declared.values.Value.TheVariants as value
-use Rattle.frame_laws.proofs.Entries.{AlwaysSuits, Entry}
-use Rattle.frame_laws.proofs.RowValues.{own_entry, row_if, said_any_if, text_entry}
-use Rattle.frame_laws.proofs.SaidRows.{IsSaid}
-use Rattle.frame_laws.proofs.WrittenItems.{rest_at, start_of}
-use Rattle.group_laws.specs.LineAgain.{IsSourceInRange, source_at, source_text}
-use Rattle.group_laws.proofs.WrittenSources.{address_part, nickname_part, source_again}
-use Rattle.group_laws.proofs.Readings.{Reads, suits_reading, text_at}
+use Rattle.frame_laws.proofs.{Entries.{AlwaysSuits, Entry}, RowValues.{own_entry, row_if, said_any_if, text_entry}}
+use Rattle.frame_laws.proofs.{SaidRows.IsSaid, WrittenItems.{rest_at, start_of}}
+use Rattle.group_laws.{specs.LineAgain.{IsSourceInRange, source_at, source_text}, proofs.WrittenSources.address_part}
+use Rattle.group_laws.proofs.{WrittenSources.{nickname_part, source_again}, Readings.{Reads, suits_reading, text_at}}
 
 -- ---- a document that has them
 

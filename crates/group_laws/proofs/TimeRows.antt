@@ -1,23 +1,14 @@
 -- The times of a period among the rows of any kind of document: moments, and the two numbers of seconds. Each suits its
 -- row.
 use Rattle.std.proofs.Common.{◌≡◌, ℕ, ◌≤◌, List, [], ◌∷◌, None, refl}
-use Rattle.frame_terms.specs.Rows.{row}
-use Rattle.frame_terms.specs.Tables.{Tables}
-use Rattle.frame_terms.specs.declared.keyword.Keyword.{Keyword}
+use Rattle.frame_terms.specs.{Rows.row, Tables.Tables, declared.{keyword.Keyword.Keyword, row.Count.TheVariants.One}}
 use Rattle.frame_terms.specs.declared.keyword.Keyword.TheVariants as the
-use Rattle.frame_terms.specs.declared.row.Count.TheVariants.{One}
-use Rattle.frame_values.specs.Lines.{delays_of, time_of}
-use Rattle.frame_values.specs.Parts.{moment_of}
-use Rattle.frame_values.specs.declared.values.Value.{Value}
+use Rattle.frame_values.specs.{Lines.{delays_of, time_of}, Parts.moment_of, declared.values.Value.Value}
 use Rattle.frame_values.specs.declared.values.Value.TheVariants as value
-use Rattle.frame_laws.proofs.Both.{both_hold}
-use Rattle.frame_laws.proofs.RowCounts.{said_once}
-use Rattle.frame_laws.proofs.RowValues.{moment_entry, own_entry}
-use Rattle.frame_laws.proofs.SaidRows.{AreSaid, IsSaid, RowSays, row_once}
-use Rattle.frame_laws.proofs.WrittenItems.{time-written}
-use Rattle.group_laws.specs.LineAgain.{delays_text}
-use Rattle.group_laws.proofs.WrittenDelays.{delays_again}
-use Rattle.group_laws.proofs.Readings.{Reads, suits_reading}
+use Rattle.frame_laws.proofs.{Both.both_hold, RowCounts.said_once, RowValues.{moment_entry, own_entry}}
+use Rattle.frame_laws.proofs.{SaidRows.{AreSaid, IsSaid, RowSays, row_once}, WrittenItems.time-written}
+use Rattle.group_laws.{specs.LineAgain.delays_text, proofs.{WrittenDelays.delays_again, Readings.Reads}}
+use Rattle.group_laws.proofs.Readings.{suits_reading}
 
 -- ---- the rows
 

@@ -2,13 +2,10 @@
 use Rattle.std.proofs.Common.{◌≡◌, true, [], ◌∷◌, Ok, refl}
 use Rattle.dirdoc_grammar.specs.Writing.{written}
 use Rattle.dir_values.specs.Arguments.{Argument}
-use Rattle.frame_values.specs.Arguments.{arguments_of}
-use Rattle.frame_values.specs.Fields.{span_of}
-use Rattle.frame_values.specs.Items.{bare}
+use Rattle.frame_values.specs.{Arguments.arguments_of, Fields.span_of, Items.bare}
 use Rattle.frame_laws.proofs.Words.{arguments_of_word}
 use Rattle.item_terms.specs.Items.{Item}
-use Rattle.relay_entries.specs.Fields.{is_address}
-use Rattle.relay_entries.specs.Lines.{address_of}
+use Rattle.relay_entries.specs.{Fields.is_address, Lines.address_of}
 use Rattle.group_laws.specs.EntryAgain.{AddressLinesAreReadAgain, rest_start}
 
 -- an item whose argument is known

@@ -1,17 +1,12 @@
 -- A line of bandwidths that was written is read again.
-use Rattle.std.proofs.Common.{◌≡◌, ℕ, ◌+◌, ◌≤◌, List, [], ◌∷◌, ◌++◌, length, Option, Some, None, Ok, refl, ap}
-use Rattle.std.proofs.Common.{◌∙◌, arith}
-use Rattle.std.specs.Prelude.{IfSome, codes, decimal}
-use Rattle.std.proofs.lemmas.List.Elements.{All-cons, All-nil}
+use Rattle.std.proofs.Common.{◌≡◌, ℕ, ◌+◌, ◌≤◌, List, [], ◌∷◌, ◌++◌, length, Option, Some, None, Ok, refl, ap, ◌∙◌}
+use Rattle.std.{proofs.{Common.arith, lemmas.List.Elements.{All-cons, All-nil}}, specs.Prelude.{IfSome, codes, decimal}}
 use Rattle.dir_bytes.proofs.ReadAgain.{number-decimal}
-use Rattle.dir_values.specs.Arguments.{Argument}
-use Rattle.dir_values.specs.Numbers.{number_of}
+use Rattle.dir_values.specs.{Arguments.Argument, Numbers.number_of}
 use Rattle.frame_values.specs.Arguments.{field, next}
-use Rattle.frame_laws.proofs.WordTexts.{bytes_of}
-use Rattle.frame_laws.proofs.Words.{AreWords, IsWord, arguments_of_words, placed, word_of_number}
-use Rattle.relay_entries.specs.Fields.{bandwidth_if, measured_if, with_argument}
-use Rattle.relay_entries.specs.Lines.{no_bandwidths, with_arguments}
-use Rattle.relay_entries.specs.Texts.{bandwidths_text, number_word}
+use Rattle.frame_laws.proofs.{WordTexts.bytes_of, Words.{AreWords, IsWord, arguments_of_words, placed, word_of_number}}
+use Rattle.relay_entries.specs.{Fields.{bandwidth_if, measured_if, with_argument}, Lines.no_bandwidths}
+use Rattle.relay_entries.specs.{Lines.with_arguments, Texts.{bandwidths_text, number_word}}
 use Rattle.relay_entries.specs.declared.said.Bandwidths.{Bandwidths}
 use Rattle.group_laws.specs.EntryAgain.{BandwidthLinesAreReadAgain, rest_start}
 

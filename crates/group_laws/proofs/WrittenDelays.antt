@@ -1,21 +1,15 @@
 -- A line of two numbers of seconds, or of flags, that was written is read again.
-use Rattle.std.proofs.Common.{◌≡◌, ℕ, ◌+◌, [], ◌∷◌, List, length, Option, Some, Ok, refl, ap, ◌∙◌, arith}
+use Rattle.std.proofs.Common.{◌≡◌, ℕ, ◌+◌, [], ◌∷◌, List, length, Option, Some, Ok, refl, ap, ◌∙◌, arith, true}
 use Rattle.std.specs.Prelude.{All, decimal}
-use Rattle.std.proofs.Common.{true}
-use Rattle.item_terms.specs.Items.{Item}
-use Rattle.item_terms.specs.Words.{words_of}
+use Rattle.item_terms.specs.{Items.Item, Words.words_of}
 use Rattle.dir_bytes.proofs.ReadAgain.{number-decimal}
-use Rattle.dir_values.specs.Arguments.{Argument}
-use Rattle.dir_values.specs.FlagSets.{Ascend, as_set, set_text, is_name, wrong_flag}
+use Rattle.dir_values.specs.{Arguments.Argument, FlagSets.{Ascend, as_set, set_text, is_name, wrong_flag}}
 use Rattle.dir_values.specs.Numbers.{number_of}
 use Rattle.dirdoc_grammar.specs.Writing.{written}
 use Rattle.frame_terms.specs.declared.keyword.Keyword.{Keyword}
-use Rattle.frame_values.specs.Arguments.{arguments_of}
-use Rattle.frame_values.specs.Items.{bare}
-use Rattle.frame_values.specs.Lines.{delays_of, flags_of, rest_unless}
+use Rattle.frame_values.specs.{Arguments.arguments_of, Items.bare, Lines.{delays_of, flags_of, rest_unless}}
 use Rattle.frame_laws.proofs.Words.{arguments_of_words, length-arguments_at, two_words, word_of_number, words_of-join}
-use Rattle.frame_laws.proofs.Words.{words_of_flags}
-use Rattle.frame_laws.proofs.WrittenItems.{rest_at, start_of}
+use Rattle.frame_laws.proofs.{Words.words_of_flags, WrittenItems.{rest_at, start_of}}
 use Rattle.group_laws.specs.LineAgain.{DelayLinesAreReadAgain, FlagLinesAreReadAgain, delays_text}
 use Rattle.group_laws.proofs.WrittenFlags.{as_set-same, passes}
 

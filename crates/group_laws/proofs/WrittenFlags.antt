@@ -1,20 +1,12 @@
 -- Flags that ascend: none of them stands twice, and the set that they make has them in that order.
 use Rattle.std.proofs.Common.{◌≡◌, ℕ, ◌+◌, Bool, true, false, cond, List, [], ◌∷◌, ◌++◌, length, get_or, Some, None}
-use Rattle.std.proofs.Common.{refl, sym, ap, ◌∙◌, append_assoc, append-nil}
-use Rattle.std.specs.Prelude.{All, not, ◌&&◌, ◌||◌}
-use Rattle.std.specs.List.{fold}
-use Rattle.std.specs.Ordering.{nat_cmp, is_eq}
-use Rattle.std.specs.Cmp.Lexicographic.{slice_cmp, texts_ties}
-use Rattle.std.specs.declared.cmp.Ordering.{Ordering}
-use Rattle.std.specs.declared.cmp.Ordering.TheVariants.{Less, Equal, Greater}
-use Rattle.std.proofs.lemmas.Bool.{or_from}
-use Rattle.std.proofs.lemmas.List.Elements.{All-append, All-cons, All-head, All-nil, All-tail}
-use Rattle.std.proofs.lemmas.List.Folds.{list_any-append}
-use Rattle.dir_values.specs.Arguments.{Argument}
-use Rattle.dir_values.specs.Digests.{is_less, bytes_below}
-use Rattle.dir_values.specs.FlagSets.{Ascend, with_flag, as_set, is_name, is_among, wrong_flag}
-use Rattle.dir_values.proofs.Orders.{AllPairs-head, AllPairs-tail}
-use Rattle.std.specs.Str.{bytes_eq}
+use Rattle.std.proofs.{Common.{refl, sym, ap, ◌∙◌, append_assoc, append-nil}, lemmas.Bool.or_from}
+use Rattle.std.proofs.lemmas.List.{Elements.{All-append, All-cons, All-head, All-nil, All-tail}, Folds.list_any-append}
+use Rattle.std.specs.{Prelude.{All, not, ◌&&◌, ◌||◌}, List.fold, Ordering.{nat_cmp, is_eq}, Cmp.Lexicographic.slice_cmp}
+use Rattle.std.specs.{Cmp.Lexicographic.texts_ties, declared.cmp.Ordering.{Ordering, TheVariants.{Less, Equal}}}
+use Rattle.std.specs.{declared.cmp.Ordering.TheVariants.Greater, Str.bytes_eq}
+use Rattle.dir_values.specs.{Arguments.Argument, Digests.{is_less, bytes_below}, FlagSets.{Ascend, with_flag, as_set}}
+use Rattle.dir_values.{specs.FlagSets.{is_name, is_among, wrong_flag}, proofs.Orders.{AllPairs-head, AllPairs-tail}}
 use Rattle.frame_laws.proofs.Words.{placed}
 
 abbrev Below : List ℕ → List ℕ → Type 0

@@ -1,26 +1,19 @@
 -- A line of a relay's Ed25519 identity that was written is read again.
-use Rattle.std.proofs.Common.{◌≡◌, ℕ, ◌+◌, false, List, [], ◌∷◌, ◌++◌, length, Option, Some, None, Ok, refl, ap, subst, ◌∙◌}
-use Rattle.std.proofs.Common.{arith}
-use Rattle.std.specs.Prelude.{codes, nat_eq, option_map, if◌then◌else◌}
-use Rattle.std.specs.Cmp.Lexicographic.{unequal}
-use Rattle.std.specs.Str.{bytes_eq}
-use Rattle.dir_bytes.specs.FieldTexts.{base64_text}
-use Rattle.dir_bytes.proofs.Spelling.{length-base64_text}
-use Rattle.dir_values.specs.Arguments.{Argument}
-use Rattle.dir_values.specs.Digests.{digest2}
+use Rattle.std.proofs.Common.{◌≡◌, ℕ, ◌+◌, false, List, [], ◌∷◌, ◌++◌, length, Option, Some, None, Ok, refl, ap, subst}
+use Rattle.std.{proofs.Common.{◌∙◌, arith}, specs.Prelude.{codes, nat_eq, option_map, if◌then◌else◌}}
+use Rattle.std.specs.{Cmp.Lexicographic.unequal, Str.bytes_eq}
+use Rattle.dir_bytes.{specs.FieldTexts.base64_text, proofs.Spelling.length-base64_text}
+use Rattle.dir_values.specs.{Arguments.Argument, Digests.digest2}
 use Rattle.dirdoc_grammar.specs.Writing.{written}
 use Rattle.frame_terms.specs.declared.keyword.Keyword.{Keyword}
-use Rattle.frame_values.specs.Arguments.{arguments_of}
-use Rattle.frame_values.specs.Items.{bare}
+use Rattle.frame_values.specs.{Arguments.arguments_of, Items.bare}
 use Rattle.frame_laws.proofs.Words.{IsWord, arguments_of_words, two_words}
 use Rattle.item_terms.specs.Items.{Item}
-use Rattle.relay_entries.specs.Fields.{ed_opinion, this_key}
-use Rattle.relay_entries.specs.Lines.{ed_of, is_ignored}
+use Rattle.relay_entries.specs.{Fields.{ed_opinion, this_key}, Lines.{ed_of, is_ignored}}
 use Rattle.relay_entries.specs.declared.said.EdOpinion.{EdOpinion}
 use Rattle.relay_entries.specs.declared.said.EdOpinion.TheVariants as opinion
 use Rattle.relay_entries.specs.declared.said.EntryKind.TheVariants as kind
-use Rattle.group_laws.specs.EntryAgain.{KeyLinesAreReadAgain, rest_start}
-use Rattle.group_laws.specs.Ranges.{AreThirtyTwo}
+use Rattle.group_laws.specs.{EntryAgain.{KeyLinesAreReadAgain, rest_start}, Ranges.AreThirtyTwo}
 use Rattle.group_laws.proofs.WrittenMicros.{digest_again, word_of_thirty_two}
 
 -- ---- what the second argument says

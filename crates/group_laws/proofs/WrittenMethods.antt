@@ -1,21 +1,15 @@
 -- Methods that were written with commas between them are read again.
-use Rattle.std.proofs.Common.{◌≡◌, ℕ, ◌≤◌, ◌<◌, true, false, List, [], ◌∷◌, length, refl, ap, ◌∙◌}
-use Rattle.std.proofs.Common.{arith, length-append, Option, Some}
-use Rattle.std.specs.Prelude.{All, decimal, is_some, map, unwrap_or}
-use Rattle.std.specs.Char.{is_ascii_digit}
-use Rattle.std.specs.List.{list_all}
-use Rattle.std.specs.Str.{all_ascii_digits}
-use Rattle.std.proofs.lemmas.Bool.{and_from, and_parts}
-use Rattle.std.proofs.lemmas.Bool.Decides.{nat_tests}
-use Rattle.std.proofs.lemmas.List.Elements.{All-cons, All-head, All-nil, All-tail}
-use Rattle.std.proofs.lemmas.List.Splits.{slice_split_at, slice_split_none}
+use Rattle.std.proofs.Common.{◌≡◌, ℕ, ◌≤◌, ◌<◌, true, false, List, [], ◌∷◌, length, refl, ap, ◌∙◌, arith, length-append}
+use Rattle.std.proofs.{Common.{Option, Some}, lemmas.Bool.{and_from, and_parts, Decides.nat_tests}}
+use Rattle.std.proofs.lemmas.List.{Elements.{All-cons, All-head, All-nil, All-tail}, Splits.slice_split_at}
+use Rattle.std.{proofs.lemmas.List.Splits.slice_split_none, specs.Prelude.{All, decimal, is_some, map, unwrap_or}}
+use Rattle.std.specs.{Char.is_ascii_digit, List.list_all, Str.all_ascii_digits}
 use Rattle.dir_bytes.proofs.ReadAgain.{decimal_digits, number-decimal}
 use Rattle.dir_values.specs.Numbers.{number_in, number_of}
 use Rattle.dirdoc_grammar.specs.Writers.{is_argument}
 use Rattle.frame_laws.proofs.WordTexts.{Dark, both_dark, is_word, length-word, number_dark, word_of_number}
 use Rattle.item_terms.specs.Bytes.{comma}
-use Rattle.relay_entries.specs.Fields.{are_methods, is_comma, methods_in, parts_of}
-use Rattle.relay_entries.specs.Texts.{methods_text}
+use Rattle.relay_entries.specs.{Fields.{are_methods, is_comma, methods_in, parts_of}, Texts.methods_text}
 
 abbrev IsSmall : ℕ → Type 0
 IsSmall n = n ≤ 4294967295

@@ -1,26 +1,15 @@
 -- A line of methods and a digest that was written is read again.
-use Rattle.std.proofs.Common.{◌≡◌, ℕ, ◌+◌, true, List, [], ◌∷◌, ◌++◌, length, Option, Some, Ok, refl, ap}
-use Rattle.std.proofs.Common.{subst, arith}
+use Rattle.std.proofs.Common.{◌≡◌, ℕ, ◌+◌, true, List, [], ◌∷◌, ◌++◌, length, Option, Some, Ok, refl, ap, subst, arith}
 use Rattle.std.specs.Prelude.{codes, option_map}
-use Rattle.dir_bytes.specs.FieldTexts.{base64_text}
-use Rattle.dir_bytes.specs.Fields.{base64}
-use Rattle.dir_bytes.proofs.ReadAgain.{base64-base64_text}
-use Rattle.dir_values.specs.Arguments.{Argument}
-use Rattle.dir_values.specs.Digests.{digest2, digest2_text}
-use Rattle.dir_values.specs.declared.digest.Digest2.{Digest2}
+use Rattle.dir_bytes.{specs.{FieldTexts.base64_text, Fields.base64}, proofs.ReadAgain.base64-base64_text}
+use Rattle.dir_values.specs.{Arguments.Argument, Digests.{digest2, digest2_text}, declared.digest.Digest2.Digest2}
 use Rattle.dirdoc_grammar.specs.Writing.{written}
-use Rattle.frame_values.specs.Arguments.{arguments_of, field, next}
-use Rattle.frame_values.specs.Fields.{span_of}
-use Rattle.frame_values.specs.Items.{bare}
+use Rattle.frame_values.specs.{Arguments.{arguments_of, field, next}, Fields.span_of, Items.bare}
 use Rattle.item_terms.specs.Items.{Item}
-use Rattle.frame_laws.proofs.Base64Words.{word_of_base64}
-use Rattle.frame_laws.proofs.WordTexts.{bytes_of}
-use Rattle.frame_laws.proofs.Words.{IsWord, arguments_of_words, two_words}
-use Rattle.relay_entries.specs.Fields.{are_methods}
-use Rattle.relay_entries.specs.Lines.{digest_among, micro_of}
-use Rattle.relay_entries.specs.Texts.{methods_text, micro_text}
-use Rattle.group_laws.specs.EntryAgain.{MicroLinesAreReadAgain, rest_start}
-use Rattle.group_laws.specs.Ranges.{AreThirtyTwo}
+use Rattle.frame_laws.proofs.{Base64Words.word_of_base64, WordTexts.bytes_of, Words.{IsWord, arguments_of_words}}
+use Rattle.frame_laws.proofs.Words.{two_words}
+use Rattle.relay_entries.specs.{Fields.are_methods, Lines.{digest_among, micro_of}, Texts.{methods_text, micro_text}}
+use Rattle.group_laws.specs.{EntryAgain.{MicroLinesAreReadAgain, rest_start}, Ranges.AreThirtyTwo}
 use Rattle.group_laws.proofs.WrittenMethods.{are_methods-text, methods_in-text, word_of_methods}
 
 -- ---- values

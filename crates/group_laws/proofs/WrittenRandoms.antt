@@ -1,30 +1,17 @@
 -- A line of a shared random value that was written is read again.
-use Rattle.std.proofs.Common.{◌≡◌, ℕ, ◌+◌, true, List, [], ◌∷◌, ◌++◌, length, take, Some, Ok, refl, ap, subst, ◌∙◌, arith}
-use Rattle.std.proofs.Common.{length-append}
-use Rattle.std.specs.Prelude.{decimal, option_map, slice_index}
-use Rattle.std.specs.List.{list_all}
-use Rattle.std.proofs.Math.Seq.{get_or-append_seam, take-append_seam}
-use Rattle.std.proofs.lemmas.Bool.{and_from}
-use Rattle.std.proofs.lemmas.List.Folds.{list_all-append}
+use Rattle.std.proofs.Common.{◌≡◌, ℕ, ◌+◌, true, List, [], ◌∷◌, ◌++◌, length, take, Some, Ok, refl, ap, subst, ◌∙◌}
+use Rattle.std.proofs.{Common.{arith, length-append}, Math.Seq.{get_or-append_seam, take-append_seam}}
+use Rattle.std.{proofs.lemmas.{Bool.and_from, List.Folds.list_all-append}, specs.Prelude.{decimal, option_map}}
+use Rattle.std.specs.{Prelude.slice_index, List.list_all}
 use Rattle.item_terms.specs.Items.{Item}
-use Rattle.dir_bytes.specs.FieldTexts.{base64_text}
-use Rattle.dir_bytes.specs.Fields.{base64}
-use Rattle.dir_bytes.proofs.ReadAgain.{base64-base64_text, number-decimal}
-use Rattle.dir_bytes.proofs.Spelling.{length-base64_text}
-use Rattle.dir_values.specs.Arguments.{Argument}
-use Rattle.dir_values.specs.Digests.{digest2}
-use Rattle.dir_values.specs.Numbers.{number_of}
-use Rattle.dir_values.specs.declared.digest.Digest2.{Digest2}
-use Rattle.dirdoc_grammar.specs.Writers.{is_argument, is_argument_byte}
-use Rattle.dirdoc_grammar.specs.Writing.{written}
-use Rattle.frame_values.specs.Arguments.{arguments_of}
-use Rattle.frame_values.specs.Items.{bare}
-use Rattle.frame_laws.proofs.Base64Words.{word_of_base64}
-use Rattle.frame_laws.proofs.WordTexts.{bytes_of, is_word}
-use Rattle.frame_laws.proofs.Words.{arguments_of_words, two_words, word_of_number}
-use Rattle.frame_laws.proofs.WrittenItems.{start_of}
-use Rattle.value_groups.specs.Lines.{random_of}
-use Rattle.value_groups.specs.Values.{padded_digest, padded_text, random_text, without_padding}
+use Rattle.dir_bytes.{specs.{FieldTexts.base64_text, Fields.base64}, proofs.ReadAgain.base64-base64_text}
+use Rattle.dir_bytes.proofs.{ReadAgain.number-decimal, Spelling.length-base64_text}
+use Rattle.dir_values.specs.{Arguments.Argument, Digests.digest2, Numbers.number_of, declared.digest.Digest2.Digest2}
+use Rattle.dirdoc_grammar.specs.{Writers.{is_argument, is_argument_byte}, Writing.written}
+use Rattle.frame_values.specs.{Arguments.arguments_of, Items.bare}
+use Rattle.frame_laws.proofs.{Base64Words.word_of_base64, WordTexts.{bytes_of, is_word}, Words.arguments_of_words}
+use Rattle.frame_laws.proofs.{Words.{two_words, word_of_number}, WrittenItems.start_of}
+use Rattle.value_groups.specs.{Lines.random_of, Values.{padded_digest, padded_text, random_text, without_padding}}
 use Rattle.value_groups.specs.declared.value.SharedRandom.{SharedRandom}
 use Rattle.group_laws.specs.LineAgain.{IsRandomInRange, RandomLinesAreReadAgain}
 

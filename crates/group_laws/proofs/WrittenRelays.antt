@@ -1,35 +1,19 @@
 -- A relay's line that was written is read again.
 use Rattle.std.proofs.Common.{◌≡◌, ℕ, ◌+◌, ◌*◌, ◌/◌, ◌%◌, ◌≤◌, true, List, [], ◌∷◌, ◌++◌, length, Some, Ok, refl, ap}
-use Rattle.std.proofs.Common.{subst, ◌∙◌, arith, append_assoc}
-use Rattle.std.specs.Prelude.{decimal, option_map}
-use Rattle.std.specs.List.{join_with_byte}
-use Rattle.std.proofs.lemmas.List.Elements.{All-cons}
-use Rattle.dir_bytes.specs.Causes.{last_moment}
-use Rattle.dir_bytes.specs.FieldTexts.{address_text, base64_text, clock_text, date_text}
-use Rattle.dir_bytes.specs.Fields.{address, base64, date, time_of_day}
-use Rattle.dir_bytes.proofs.ReadAgain.{address-address_text, base64-base64_text, date-date_text, number-decimal}
-use Rattle.dir_bytes.proofs.ReadAgain.{time_of_day-clock_text}
-use Rattle.dir_values.specs.Arguments.{Argument, arguments_at}
-use Rattle.dir_values.specs.Digests.{digest1}
-use Rattle.dir_values.specs.Names.{is_nickname}
-use Rattle.dir_values.specs.Numbers.{port_of}
-use Rattle.dir_values.specs.declared.digest.Digest1.{Digest1}
-use Rattle.dir_values.specs.declared.digest.Fingerprint.{Fingerprint}
+use Rattle.std.{proofs.{Common.{subst, ◌∙◌, arith, append_assoc}, lemmas.List.Elements.All-cons}, specs.Prelude.decimal}
+use Rattle.std.specs.{Prelude.option_map, List.join_with_byte}
+use Rattle.dir_bytes.specs.{Causes.last_moment, FieldTexts.{address_text, base64_text, clock_text, date_text}}
+use Rattle.dir_bytes.{specs.Fields.{address, base64, date, time_of_day}, proofs.ReadAgain.address-address_text}
+use Rattle.dir_bytes.proofs.ReadAgain.{base64-base64_text, date-date_text, number-decimal, time_of_day-clock_text}
+use Rattle.dir_values.specs.{Arguments.{Argument, arguments_at}, Digests.digest1, Names.is_nickname, Numbers.port_of}
+use Rattle.dir_values.specs.declared.digest.{Digest1.Digest1, Fingerprint.Fingerprint}
 use Rattle.dirdoc_grammar.specs.Writing.{written}
-use Rattle.frame_values.specs.Arguments.{arguments_of}
-use Rattle.frame_values.specs.Fields.{span_of}
-use Rattle.frame_values.specs.Items.{bare}
-use Rattle.frame_values.specs.Parts.{moment_of}
-use Rattle.frame_values.specs.Ranges.{AreTwenty}
+use Rattle.frame_values.specs.{Arguments.arguments_of, Fields.span_of, Items.bare, Parts.moment_of, Ranges.AreTwenty}
 use Rattle.item_terms.specs.Items.{Item}
-use Rattle.frame_laws.proofs.Base64Words.{word_of_base64}
-use Rattle.frame_laws.proofs.Words.{AreWords, IsWord, arguments_of_words, two_words, word_of_address, word_of_clock}
-use Rattle.frame_laws.proofs.Words.{word_of_date, word_of_nickname, word_of_number}
-use Rattle.relay_entries.specs.Fields.{identity}
-use Rattle.relay_entries.specs.Lines.{relay_of}
-use Rattle.relay_entries.specs.Texts.{relay_text}
-use Rattle.group_laws.specs.EntryAgain.{RelayLinesAreReadAgain, rest_start}
-use Rattle.group_laws.specs.Ranges.{IsRelayInRange}
+use Rattle.frame_laws.proofs.{Base64Words.word_of_base64, Words.{AreWords, IsWord, arguments_of_words, two_words}}
+use Rattle.frame_laws.proofs.Words.{word_of_address, word_of_clock, word_of_date, word_of_nickname, word_of_number}
+use Rattle.relay_entries.specs.{Fields.identity, Lines.relay_of, Texts.relay_text}
+use Rattle.group_laws.specs.{EntryAgain.{RelayLinesAreReadAgain, rest_start}, Ranges.IsRelayInRange}
 
 -- ---- values
 

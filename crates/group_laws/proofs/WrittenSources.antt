@@ -1,29 +1,20 @@
 -- A line that says who an authority is, and that was written, is read again; and where its words stand.
 use Rattle.std.proofs.Common.{◌≡◌, ℕ, ◌+◌, ◌≤◌, true, List, [], ◌∷◌, ◌++◌, length, Some, Ok, refl, sym, ap, subst, ◌∙◌}
-use Rattle.std.proofs.Common.{append_assoc, arith, length-append}
-use Rattle.std.specs.Fmt.{decimal}
+use Rattle.std.{proofs.{Common.{append_assoc, arith, length-append}, lemmas.List.Elements.All-cons}, specs.Fmt.decimal}
 use Rattle.std.specs.List.{join_with_byte}
-use Rattle.std.proofs.lemmas.List.Elements.{All-cons}
 use Rattle.item_terms.specs.Items.{Item}
-use Rattle.dir_bytes.specs.FieldTexts.{address_text, hex_text}
-use Rattle.dir_bytes.specs.Fields.{address}
+use Rattle.dir_bytes.specs.{FieldTexts.{address_text, hex_text}, Fields.address}
 use Rattle.dir_bytes.proofs.ReadAgain.{address-address_text, number-decimal}
-use Rattle.dir_values.specs.Arguments.{Argument}
-use Rattle.dir_values.specs.Digests.{fingerprint}
-use Rattle.dir_values.specs.Names.{is_nickname}
-use Rattle.dir_values.specs.Numbers.{port_of}
+use Rattle.dir_values.specs.{Arguments.Argument, Digests.fingerprint, Names.is_nickname, Numbers.port_of}
 use Rattle.dir_values.specs.declared.digest.Fingerprint.{Fingerprint}
 use Rattle.dirdoc_grammar.specs.Writing.{written}
-use Rattle.frame_values.specs.Arguments.{arguments_of}
-use Rattle.frame_values.specs.Fields.{is_there, span, span_of}
-use Rattle.frame_values.specs.Items.{bare}
-use Rattle.frame_values.specs.Lines.{source_of}
+use Rattle.frame_values.specs.{Arguments.arguments_of, Fields.{is_there, span, span_of}, Items.bare, Lines.source_of}
 use Rattle.frame_values.specs.Parts.{part}
-use Rattle.frame_laws.proofs.StandingParts.{part_of_part}
-use Rattle.frame_laws.proofs.Words.{AreWords, IsWord, arguments_of_words, two_words, word_of_address, word_of_identity}
-use Rattle.frame_laws.proofs.Words.{word_of_nickname, word_of_number}
+use Rattle.frame_laws.proofs.{StandingParts.part_of_part, Words.{AreWords, IsWord, arguments_of_words, two_words}}
+use Rattle.frame_laws.proofs.Words.{word_of_address, word_of_identity, word_of_nickname, word_of_number}
 use Rattle.frame_laws.proofs.WrittenItems.{identity_again, start_of, word_is_there}
-use Rattle.group_laws.specs.LineAgain.{IsSourceInRange, SourceLinesAreReadAgain, source_at, source_text, words_of_source}
+use Rattle.group_laws.specs.LineAgain.{IsSourceInRange, SourceLinesAreReadAgain, source_at, source_text}
+use Rattle.group_laws.specs.LineAgain.{words_of_source}
 
 -- each of its words is a word
 source_words : (nickname : List ℕ) (identity : Fingerprint) (host : List ℕ) (ip dir_port or_port : ℕ)

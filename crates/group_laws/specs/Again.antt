@@ -1,26 +1,15 @@
 -- Lines of signatures are read again, in any kind of document (dir-spec, "Vote and consensus status document formats",
 -- the `directory-signature` line).
 use Rattle.std.specs.Prelude.{◌≡◌, ℕ, ◌+◌, true, List, [], ◌∷◌, ◌++◌, length, IfSome, Ok, Option, Some, None, codes}
-use Rattle.std.specs.Prelude.{option_map}
-use Rattle.std.specs.List.{join_with_byte}
-use Rattle.item_terms.specs.Bytes.{space}
-use Rattle.item_terms.specs.Items.{Item}
+use Rattle.std.specs.{Prelude.option_map, List.join_with_byte}
+use Rattle.item_terms.specs.{Bytes.space, Items.Item}
 use Rattle.dir_bytes.specs.FieldTexts.{hex_text}
-use Rattle.dir_values.specs.Digests.{fingerprint}
-use Rattle.dir_values.specs.Names.{algorithm}
-use Rattle.dir_values.specs.declared.algorithm.Algorithm.{Algorithm}
-use Rattle.dir_values.specs.declared.digest.Digest1.{Digest1}
-use Rattle.dir_values.specs.declared.digest.Fingerprint.{Fingerprint}
-use Rattle.dirdoc_grammar.specs.Bodies.{begin_line, body_text}
-use Rattle.dirdoc_grammar.specs.Writers.{is_argument}
-use Rattle.dirdoc_grammar.specs.Writing.{tail, written}
-use Rattle.frame_terms.specs.Keywords.{text_of}
-use Rattle.frame_terms.specs.declared.keyword.Keyword.{Keyword}
-use Rattle.frame_values.specs.Fields.{span}
-use Rattle.frame_values.specs.Items.{with_object}
-use Rattle.frame_values.specs.Ranges.{AreTwenty}
-use Rattle.frame_values.specs.Signatures.{known_signature_of, signature_of}
-use Rattle.frame_values.specs.declared.found.VoteSignature.{VoteSignature}
+use Rattle.dir_values.specs.{Digests.fingerprint, Names.algorithm, declared.algorithm.Algorithm.Algorithm}
+use Rattle.dir_values.specs.declared.digest.{Digest1.Digest1, Fingerprint.Fingerprint}
+use Rattle.dirdoc_grammar.specs.{Bodies.{begin_line, body_text}, Writers.is_argument, Writing.{tail, written}}
+use Rattle.frame_terms.specs.{Keywords.text_of, declared.keyword.Keyword.Keyword}
+use Rattle.frame_values.specs.{Fields.span, Items.with_object, Ranges.AreTwenty, Signatures.known_signature_of}
+use Rattle.frame_values.specs.{Signatures.signature_of, declared.found.VoteSignature.VoteSignature}
 
 -- ---- the line
 

@@ -1,23 +1,15 @@
 -- Lines that say something of a relay are read again (dir-spec, "Vote and consensus status document formats").
 use Rattle.std.specs.Prelude.{◌≡◌, ℕ, false, List, ◌++◌, Some, Ok}
 use Rattle.item_terms.specs.Words.{argument_start}
-use Rattle.dir_values.specs.declared.digest.Digest1.{Digest1}
-use Rattle.dir_values.specs.declared.digest.Digest2.{Digest2}
-use Rattle.dir_values.specs.declared.digest.Fingerprint.{Fingerprint}
+use Rattle.dir_values.specs.declared.digest.{Digest1.Digest1, Digest2.Digest2, Fingerprint.Fingerprint}
 use Rattle.dirdoc_grammar.specs.Writing.{tail, written}
-use Rattle.frame_terms.specs.Keywords.{text_of}
-use Rattle.frame_terms.specs.declared.keyword.Keyword.{Keyword}
-use Rattle.frame_values.specs.Fields.{span}
-use Rattle.frame_values.specs.Items.{bare}
-use Rattle.frame_values.specs.Parts.{moment_of}
-use Rattle.relay_entries.specs.Fields.{methods_in}
-use Rattle.relay_entries.specs.Lines.{address_of, bandwidths_of, ed_of, is_ignored, micro_of, relay_of}
-use Rattle.relay_entries.specs.Texts.{bandwidths_text, ed_text, methods_text, micro_text, relay_text}
-use Rattle.relay_entries.specs.declared.said.Bandwidths.{Bandwidths}
-use Rattle.relay_entries.specs.declared.said.EdOpinion.{EdOpinion}
-use Rattle.relay_entries.specs.declared.said.EntryKind.TheVariants as kind
-use Rattle.relay_entries.specs.declared.said.MicroLine.{MicroLine}
+use Rattle.frame_terms.specs.{Keywords.text_of, declared.keyword.Keyword.Keyword}
+use Rattle.frame_values.specs.{Fields.span, Items.bare, Parts.moment_of}
+use Rattle.relay_entries.specs.{Fields.methods_in, Lines.{address_of, bandwidths_of, ed_of, is_ignored, micro_of}}
+use Rattle.relay_entries.specs.{Lines.relay_of, Texts.{bandwidths_text, ed_text, methods_text, micro_text, relay_text}}
+use Rattle.relay_entries.specs.declared.said.{Bandwidths.Bandwidths, EdOpinion.EdOpinion, MicroLine.MicroLine}
 use Rattle.relay_entries.specs.declared.said.RelayLine.{RelayLine}
+use Rattle.relay_entries.specs.declared.said.EntryKind.TheVariants as kind
 use Rattle.group_laws.specs.Ranges.{AreBandwidthsInRange, AreMethodsInRange, AreThirtyTwo, IsAddressInRange}
 use Rattle.group_laws.specs.Ranges.{IsOpinionInRange, IsRelayInRange}
 

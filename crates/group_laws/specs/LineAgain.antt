@@ -3,24 +3,15 @@
 use Rattle.std.specs.Prelude.{◌≡◌, ℕ, ◌+◌, ◌<◌, ◌≤◌, ◌^◌, true, List, [], ◌∷◌, ◌++◌, length, All, Ok, decimal}
 use Rattle.std.specs.List.{join_with_byte}
 use Rattle.base64.specs.GeneralPurpose.{IsBytes}
-use Rattle.item_terms.specs.Bytes.{space}
-use Rattle.item_terms.specs.Words.{argument_start, words_of}
+use Rattle.item_terms.specs.{Bytes.space, Words.{argument_start, words_of}}
 use Rattle.dir_bytes.specs.FieldTexts.{address_text, hex_text}
-use Rattle.dir_values.specs.FlagSets.{Ascend, as_set, is_name, set_text}
-use Rattle.dir_values.specs.Names.{is_nickname}
+use Rattle.dir_values.specs.{FlagSets.{Ascend, as_set, is_name, set_text}, Names.is_nickname}
 use Rattle.dir_values.specs.declared.digest.Fingerprint.{Fingerprint}
-use Rattle.dirdoc_grammar.specs.Writers.{is_argument}
-use Rattle.dirdoc_grammar.specs.Writing.{tail, written}
-use Rattle.frame_terms.specs.Keywords.{text_of}
-use Rattle.frame_terms.specs.declared.keyword.Keyword.{Keyword}
-use Rattle.frame_values.specs.Fields.{span}
-use Rattle.frame_values.specs.Items.{bare}
-use Rattle.frame_values.specs.Lines.{delays_of, flags_of, source_of}
-use Rattle.frame_values.specs.Ranges.{AreTwenty}
+use Rattle.dirdoc_grammar.specs.{Writers.is_argument, Writing.{tail, written}}
+use Rattle.frame_terms.specs.{Keywords.text_of, declared.keyword.Keyword.Keyword}
+use Rattle.frame_values.specs.{Fields.span, Items.bare, Lines.{delays_of, flags_of, source_of}, Ranges.AreTwenty}
 use Rattle.frame_values.specs.declared.found.DirSource.{DirSource}
-use Rattle.value_groups.specs.Lines.{random_of}
-use Rattle.value_groups.specs.Values.{random_text}
-use Rattle.value_groups.specs.declared.value.SharedRandom.{SharedRandom}
+use Rattle.value_groups.specs.{Lines.random_of, Values.random_text, declared.value.SharedRandom.SharedRandom}
 
 -- where the rest of a line begins that was written at a place
 abbrev pub rest_start : ℕ → Keyword → List ℕ → ℕ

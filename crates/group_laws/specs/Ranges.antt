@@ -2,14 +2,10 @@
 -- formats").
 use Rattle.std.specs.Prelude.{◌≡◌, ℕ, ◌<◌, ◌≤◌, ◌^◌, true, List, length, All, IfSome}
 use Rattle.base64.specs.GeneralPurpose.{IsBytes}
-use Rattle.dir_values.specs.Names.{is_nickname}
-use Rattle.dir_values.specs.declared.digest.Digest1.{Digest1}
-use Rattle.dir_values.specs.declared.digest.Fingerprint.{Fingerprint}
+use Rattle.dir_values.specs.{Names.is_nickname, declared.digest.{Digest1.Digest1, Fingerprint.Fingerprint}}
 use Rattle.dirdoc_grammar.specs.Writers.{is_argument}
 use Rattle.frame_values.specs.Ranges.{AreTwenty}
-use Rattle.relay_entries.specs.Fields.{is_address}
-use Rattle.relay_entries.specs.declared.said.Bandwidths.{Bandwidths}
-use Rattle.relay_entries.specs.declared.said.EdOpinion.{EdOpinion}
+use Rattle.relay_entries.specs.{Fields.is_address, declared.said.{Bandwidths.Bandwidths, EdOpinion.EdOpinion}}
 use Rattle.relay_entries.specs.declared.said.EdOpinion.TheVariants as opinion
 
 -- the bytes are thirty-two, as those of a SHA-256 or of an Ed25519 key

@@ -1,5 +1,6 @@
 // What the definitions of reading and of writing have in common.
-ghost use Rattle.group_laws.specs.EntryAgain.{AddressLinesAreReadAgain, BandwidthLinesAreReadAgain, KeyLinesAreReadAgain, MicroLinesAreReadAgain, RelayLinesAreReadAgain};
+ghost use Rattle.group_laws.specs.EntryAgain.{AddressLinesAreReadAgain, BandwidthLinesAreReadAgain};
+ghost use Rattle.group_laws.specs.EntryAgain.{KeyLinesAreReadAgain, MicroLinesAreReadAgain, RelayLinesAreReadAgain};
 
 /// A law: a line that says who a relay is and where it is reached is read as that, wherever it stands.
 pub fn relay_lines_are_read_again()

@@ -1,12 +1,8 @@
 -- A text, a set or a list of which the elements so far are done, and one element more.
 use Rattle.std.proofs.Common.{◌≡◌, ℕ, ◌+◌, ◌<◌, List, [], ◌∷◌, ◌++◌, Some, length, get_or, drop, map, sym, ap, ◌∙◌}
-use Rattle.std.proofs.Common.{append_assoc, Bool}
-use Rattle.std.specs.Prelude.{slice_get, filter}
+use Rattle.std.proofs.{Common.{append_assoc, Bool}, lemmas.List.{drop_more, Elements.filter-append, Sums.fold-append}}
+use Rattle.std.{proofs.lemmas.Option.{get_or_from_slice_get, slice_get_within}, specs.Prelude.{slice_get, filter}}
 use Rattle.std.specs.List.{fold, flat_map}
-use Rattle.std.proofs.lemmas.List.{drop_more}
-use Rattle.std.proofs.lemmas.List.Elements.{filter-append}
-use Rattle.std.proofs.lemmas.List.Sums.{fold-append}
-use Rattle.std.proofs.lemmas.Option.{get_or_from_slice_get, slice_get_within}
 use Rattle.dir_values.specs.FlagSets.{with_flag}
 
 module _ {A : Type 0} where

@@ -1,14 +1,10 @@
 -- What an authority says of a relay, by the place of its entry.
-use Rattle.std.proofs.Common.{◌≡◌, ℕ, List, Option, Some, None, get_or, refl, sym, ap, ◌∙◌}
-use Rattle.std.specs.Prelude.{option_map, option_and_then, slice_get}
-use Rattle.std.proofs.lemmas.Option.{same_Some, get_or_from_slice_get}
+use Rattle.std.proofs.{Common.{◌≡◌, ℕ, List, Option, Some, None, get_or, refl, sym, ap, ◌∙◌}, lemmas.Option.same_Some}
+use Rattle.std.{proofs.lemmas.Option.get_or_from_slice_get, specs.Prelude.{option_map, option_and_then, slice_get}}
 use Rattle.dir_values.specs.declared.digest.Fingerprint.{Fingerprint}
-use Rattle.vote_terms.specs.Votes.{ReadVote}
-use Rattle.vote_terms.specs.declared.entry.EntryFacts.{EntryFacts}
-use Rattle.compute_terms.specs.declared.belong.Belong.{Belong}
-use Rattle.compute_terms.specs.Listings.{Listing, listing_at}
-use Rattle.health_report.specs.declared.opinion.Opinion.{Opinion}
-use Rattle.health_report.specs.Lines.{opinion_of}
+use Rattle.vote_terms.specs.{Votes.ReadVote, declared.entry.EntryFacts.EntryFacts}
+use Rattle.compute_terms.specs.{declared.belong.Belong.Belong, Listings.{Listing, listing_at}}
+use Rattle.health_report.specs.{declared.opinion.Opinion.Opinion, Lines.opinion_of}
 
 abbrev listing_with : ReadVote → EntryFacts → Listing
 listing_with vote entry = record { vote = vote; entry = entry }

@@ -1,14 +1,9 @@
 -- Whether a vote lists a relay, by the place of its entry; and the lines of relays.
-use Rattle.std.proofs.Common.{◌≡◌, ℕ, ◌+◌, Bool, true, false, List, [], ◌∷◌, ◌++◌, refl, sym, ap, ◌∙◌}
-use Rattle.std.proofs.Common.{append-nil, map}
-use Rattle.std.specs.Prelude.{is_some}
-use Rattle.std.specs.List.{list_any, flat_map}
-use Rattle.dir_values.specs.declared.digest.Fingerprint.{Fingerprint}
-use Rattle.dir_values.specs.Digests.{same_identity}
-use Rattle.dir_values.specs.FlagSets.{as_set}
+use Rattle.std.proofs.Common.{◌≡◌, ℕ, ◌+◌, Bool, true, false, List, [], ◌∷◌, ◌++◌, refl, sym, ap, ◌∙◌, append-nil, map}
+use Rattle.std.specs.{Prelude.is_some, List.{list_any, flat_map}}
+use Rattle.dir_values.specs.{declared.digest.Fingerprint.Fingerprint, Digests.same_identity, FlagSets.as_set}
 use Rattle.dir_values.proofs.Flags.{has_flag-as_set}
-use Rattle.vote_terms.specs.declared.entry.EntryFacts.{EntryFacts}
-use Rattle.vote_terms.specs.Votes.{ReadVote}
+use Rattle.vote_terms.specs.{declared.entry.EntryFacts.EntryFacts, Votes.ReadVote}
 use Rattle.relay_select.specs.Walks.{Group, place_from}
 use Rattle.compute_terms.specs.Listings.{identities_in}
 use Rattle.health_report.specs.Reports.{all_relays, lines_of}

@@ -1,16 +1,11 @@
 -- The keys of votes.
-use Rattle.std.proofs.Common.{◌≡◌, ℕ, ◌+◌, ◌<◌, List, [], ◌∷◌, ◌++◌, length, get_or, take, map, true}
-use Rattle.std.proofs.Common.{sym, ap, ◌∙◌, arith}
-use Rattle.std.specs.Prelude.{All, AllPairs}
-use Rattle.std.proofs.lemmas.List.{get_or-map, length-map}
-use Rattle.std.proofs.lemmas.List.Elements.{All-nil, All-cons, All-head, All-tail}
+use Rattle.std.proofs.Common.{◌≡◌, ℕ, ◌+◌, ◌<◌, List, [], ◌∷◌, ◌++◌, length, get_or, take, map, true, sym, ap, ◌∙◌}
+use Rattle.std.proofs.{Common.arith, lemmas.List.{get_or-map, length-map, Elements.{All-nil, All-cons, All-head}}}
+use Rattle.std.{proofs.lemmas.List.Elements.All-tail, specs.Prelude.{All, AllPairs}}
 use Rattle.dir_values.proofs.Orders.{apart, AllPairs-cons, AllPairs-head, AllPairs-tail, AllPairs-nil}
 use Rattle.dir_values.specs.Digests.{identity_below}
-use Rattle.vote_terms.specs.Held.{VotesAscend}
-use Rattle.vote_terms.specs.Votes.{ReadVote}
-use Rattle.detached_sigs.specs.declared.key.SignerKey.{SignerKey}
-use Rattle.detached_sigs.specs.Signers.{AreApart}
-use Rattle.detached_sigs.proofs.Asking.{taken}
+use Rattle.vote_terms.specs.{Held.VotesAscend, Votes.ReadVote}
+use Rattle.detached_sigs.{specs.{declared.key.SignerKey.SignerKey, Signers.AreApart}, proofs.Asking.taken}
 use Rattle.health_report.specs.Signers.{key_of}
 
 -- the key of a vote is that at its place

@@ -4,12 +4,11 @@ use Rattle.item_terms.specs.Bytes.{line_feed}
 use Rattle.dir_bytes.specs.FieldTexts.{moment_text}
 use Rattle.dir_values.specs.declared.digest.Fingerprint.{Fingerprint}
 use Rattle.vote_terms.specs.Votes.{ReadVote}
-use Rattle.consensus_terms.specs.declared.consensus.SignedConsensus.{SignedConsensus}
-use Rattle.consensus_terms.specs.declared.router.Routerline.{Routerline}
+use Rattle.consensus_terms.specs.declared.{consensus.SignedConsensus.SignedConsensus, router.Routerline.Routerline}
 use Rattle.detached_sigs.specs.declared.key.SignerKey.{SignerKey}
-use Rattle.health_report.specs.Lines.{head_lines, number_line, period_line}
-use Rattle.health_report.specs.Reports.{all_relays, extra_lines, members_of, missing_votes, param_lines, report_text}
-use Rattle.health_report.specs.Reports.{router_identities, signer_lines}
+use Rattle.health_report.specs.{Lines.{head_lines, number_line, period_line}, Reports.{all_relays, extra_lines}}
+use Rattle.health_report.specs.Reports.{members_of, missing_votes, param_lines, report_text, router_identities}
+use Rattle.health_report.specs.Reports.{signer_lines}
 
 -- three pieces behind some bytes
 three_more : (out a b new one two three : List ℕ) → a ≡ out ++ one → b ≡ a ++ two → new ≡ b ++ three

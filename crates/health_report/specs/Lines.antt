@@ -1,14 +1,10 @@
 -- The lines of a health report. Identities stand in them as 40 hex digits in upper case.
 use Rattle.std.specs.Prelude.{ℕ, ℤ, Bool, List, [], ◌∷◌, ◌++◌, Option, Some, None, codes, decimal, if◌then◌else◌}
-use Rattle.std.specs.Fmt.{signed_decimal}
-use Rattle.std.specs.Option.{option_map_or}
-use Rattle.std.specs.List.{flat_map}
+use Rattle.std.specs.{Fmt.signed_decimal, Option.option_map_or, List.flat_map}
 use Rattle.item_terms.specs.Bytes.{space, line_feed}
 use Rattle.dir_bytes.specs.FieldTexts.{moment_text, hex_text}
 use Rattle.dir_values.specs.FlagSets.{as_set, has_flag}
-use Rattle.list_values.specs.Equations.{equals}
-use Rattle.list_values.specs.Maps.{value_at, names_of}
-use Rattle.list_values.specs.declared.named.Named.{Named}
+use Rattle.list_values.specs.{Equations.equals, Maps.{value_at, names_of}, declared.named.Named.Named}
 use Rattle.vote_terms.specs.Votes.{ReadVote}
 use Rattle.compute_terms.specs.Listings.{Listing}
 use Rattle.health_report.specs.declared.opinion.Opinion.{Opinion}

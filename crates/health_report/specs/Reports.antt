@@ -1,15 +1,11 @@
 -- The health report of a period: which authority misses what, by the held votes and the consensus.
-use Rattle.std.specs.Prelude.{◌≡◌, ℕ, Bool, List, [], ◌++◌, map, length, codes, if◌then◌else◌}
-use Rattle.std.specs.List.{flat_map, list_any}
-use Rattle.std.specs.Str.{bytes_eq}
-use Rattle.dir_values.specs.Digests.{same_identity}
-use Rattle.dir_values.specs.FlagSets.{as_set, has_flag}
+use Rattle.std.specs.{Prelude.{◌≡◌, ℕ, Bool, List, [], ◌++◌, map, length, codes, if◌then◌else◌}, List.flat_map}
+use Rattle.std.specs.{List.list_any, Str.bytes_eq}
+use Rattle.dir_values.specs.{Digests.same_identity, FlagSets.{as_set, has_flag}}
 use Rattle.dir_values.specs.declared.digest.Fingerprint.{Fingerprint}
 use Rattle.key_port.specs.Answers.{Rules}
-use Rattle.vote_terms.specs.Votes.{ReadVote}
-use Rattle.vote_terms.specs.declared.entry.EntryFacts.{EntryFacts}
-use Rattle.consensus_terms.specs.declared.consensus.SignedConsensus.{SignedConsensus}
-use Rattle.consensus_terms.specs.declared.router.Routerline.{Routerline}
+use Rattle.vote_terms.specs.{Votes.ReadVote, declared.entry.EntryFacts.EntryFacts}
+use Rattle.consensus_terms.specs.declared.{consensus.SignedConsensus.SignedConsensus, router.Routerline.Routerline}
 use Rattle.compute_terms.specs.Listings.{listings, identities_in}
 use Rattle.detached_sigs.specs.declared.key.SignerKey.{SignerKey}
 use Rattle.health_report.specs.Lines.{identity_line, head_lines, param_line, param_names, opinion_of, relay_lines}

@@ -6,8 +6,7 @@ use Rattle.sha1.specs.Sha1.{sha1}
 use Rattle.key_port.specs.Answers.{Rules}
 use Rattle.vote_terms.specs.Votes.{ReadVote}
 use Rattle.consensus_terms.specs.declared.signature.SignatureLine.{SignatureLine}
-use Rattle.detached_sigs.specs.declared.key.SignerKey.{SignerKey}
-use Rattle.detached_sigs.specs.Signers.{AreSigners}
+use Rattle.detached_sigs.specs.{declared.key.SignerKey.SignerKey, Signers.AreSigners}
 
 -- the authority of a vote, with the signing key of its certificate
 abbrev pub key_of : ReadVote → SignerKey

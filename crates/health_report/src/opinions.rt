@@ -1,6 +1,5 @@
 // What the authorities say of a relay.
-ghost use Rattle.std.specs.Prelude.{◌≡◌, Some, IfOk, IsSome, OnOk, map, option_map};
-ghost use Rattle.std.specs.List.{fold};
+ghost use Rattle.std.specs.{Prelude.{◌≡◌, Some, IfOk, IsSome, OnOk, map, option_map}, List.fold};
 ghost use Rattle.item_terms.specs.Words.{words_of};
 ghost use Rattle.dir_values.specs.FlagSets.{with_flag, as_set};
 ghost use Rattle.compute_terms.specs.Listings as listings;

@@ -1,6 +1,5 @@
 // The lines of the params of votes.
-ghost use Rattle.std.specs.Prelude.{◌≡◌, ◌++◌, IfOk, OnOk};
-ghost use Rattle.std.specs.List.{fold, flat_map};
+ghost use Rattle.std.specs.{Prelude.{◌≡◌, ◌++◌, IfOk, OnOk}, List.{fold, flat_map}};
 ghost use Rattle.dir_values.specs.FlagSets.{with_flag};
 ghost use Rattle.health_report.specs.Lines as lines;
 ghost use Rattle.health_report.specs.Reports as reports;

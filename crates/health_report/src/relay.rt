@@ -1,6 +1,5 @@
 // The lines of a relay.
-ghost use Rattle.std.specs.Prelude.{◌≡◌, ◌++◌, OnOk};
-ghost use Rattle.std.specs.List.{flat_map};
+ghost use Rattle.std.specs.{Prelude.{◌≡◌, ◌++◌, OnOk}, List.flat_map};
 ghost use Rattle.health_report.specs.Lines as lines;
 
 use crate::lines::push_identity;

@@ -1,6 +1,5 @@
 // The lines of all relays.
-ghost use Rattle.std.specs.Prelude.{◌≡◌, ◌++◌, IfOk, OnOk};
-ghost use Rattle.std.specs.List.{list_any};
+ghost use Rattle.std.specs.{Prelude.{◌≡◌, ◌++◌, IfOk, OnOk}, List.list_any};
 ghost use Rattle.dir_values.specs.FlagSets.{as_set};
 ghost use Rattle.compute_terms.specs.Listings.{AreMembers, listings, listings_at};
 ghost use Rattle.health_report.specs.Reports as reports;

@@ -1,15 +1,11 @@
 -- The parts of a list between its hyphens, and the digests that they spell.
 use Rattle.std.proofs.Common.{◌≡◌, ℕ, suc, ◌+◌, ◌<◌, ◌≤◌, Bool, true, false, cond, not, List, [], ◌∷◌, ◌++◌, length}
 use Rattle.std.proofs.Common.{take, drop, refl, ap, sym, ◌∙◌, arith, Option, Some, None, append_assoc}
-use Rattle.std.specs.Prelude.{nat_le}
-use Rattle.std.specs.Borrow.{Bor}
-use Rattle.std.specs.Option.{option_map}
-use Rattle.std.specs.List.{onto_first, position_or_len}
-use Rattle.std.proofs.lemmas.List.{append-nil}
-use Rattle.std.proofs.lemmas.List.Splits.{slice_split_first, length-slice_split}
+use Rattle.std.{proofs.lemmas.List.{append-nil, Splits.{slice_split_first, length-slice_split}}, specs.Prelude.nat_le}
+use Rattle.std.specs.{Borrow.Bor, Option.option_map, List.{onto_first, position_or_len}}
 use Rattle.dir_bytes.specs.Fields.{base64}
-use Rattle.http_words.specs.DigestLists.{digest_limit, is_hyphen, parts_of, with_others, digests_of}
-use Rattle.http_words.specs.DigestLists.{digest_list, SplitsOff}
+use Rattle.http_words.specs.DigestLists.{digest_limit, is_hyphen, parts_of, with_others, digests_of, digest_list}
+use Rattle.http_words.specs.DigestLists.{SplitsOff}
 
 pub first_part : (text : List ℕ) (n : ℕ) → n ≡ position_or_len is_hyphen text → n < length text
     → parts_of text ≡ take n text ∷ parts_of (drop (n + 1) text)

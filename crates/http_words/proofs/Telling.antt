@@ -1,11 +1,8 @@
 -- What is told of an outcome.
-use Rattle.std.proofs.Common.{◌≡◌, ℕ, List, [], length, take, Option, Some, None, Result, Ok, Err}
-use Rattle.std.proofs.Common.{sym, ◌∙◌, subst, arith, append-nil}
-use Rattle.std.proofs.lemmas.List.{take_all}
-use Rattle.std.specs.Io.KnownBytes.{Appends, Keeps}
-use Rattle.dir_http.specs.declared.response.WriteRefusal.{WriteRefusal}
+use Rattle.std.proofs.Common.{◌≡◌, ℕ, List, [], length, take, Option, Some, None, Result, Ok, Err, sym, ◌∙◌, subst}
+use Rattle.std.{proofs.{Common.{arith, append-nil}, lemmas.List.take_all}, specs.Io.KnownBytes.{Appends, Keeps}}
+use Rattle.dir_http.specs.{declared.response.WriteRefusal.WriteRefusal, Responses.{WritesResponse, response_text}}
 use Rattle.dir_http.specs.declared.response.WriteRefusal.TheVariants as refusal
-use Rattle.dir_http.specs.Responses.{WritesResponse, response_text}
 use Rattle.http_words.specs.Connections.{TriesShortage}
 
 keeps_nothing : (old new : Option (List ℕ)) → Keeps old new → Appends old new []

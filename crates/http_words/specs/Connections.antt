@@ -2,18 +2,12 @@
 use Rattle.std.specs.Prelude.{◌≡◌, ◌≢◌, ◌<◌, ℕ, List, [], take, length, Option, Some, Result, Ok, Err}
 use Rattle.std.specs.Io.KnownBytes.{Appends}
 use Rattle.dir_bytes.specs.Causes.{Rose}
-use Rattle.dir_http.specs.declared.fault.HttpFault.{HttpFault}
-use Rattle.dir_http.specs.Requests.{ReadRequest, ReadsWhole}
+use Rattle.dir_http.specs.{declared.fault.HttpFault.HttpFault, Requests.{ReadRequest, ReadsWhole}}
 use Rattle.dir_http.specs.Responses.{response_text}
-use Rattle.http_words.specs.declared.asked.Asked.{Asked}
-use Rattle.http_words.specs.declared.replies.Reply.{Reply}
-use Rattle.http_words.specs.Paths.{asked_by}
-use Rattle.http_words.specs.Replies.{reply_to}
-use Rattle.http_words.specs.declared.connection.ConnStatus.{ConnStatus}
-use Rattle.http_words.specs.declared.connection.ConnStatus.TheVariants as status
-use Rattle.http_words.specs.declared.outcome.Outcome.{Outcome}
-use Rattle.http_words.specs.declared.outcome.Outcome.TheVariants.{Replied}
+use Rattle.http_words.specs.declared.{asked.Asked.Asked, replies.Reply.Reply, connection.ConnStatus.ConnStatus}
+use Rattle.http_words.specs.{declared.outcome.Outcome.{Outcome, TheVariants.Replied}, Paths.asked_by, Replies.reply_to}
 use Rattle.http_words.specs.Outcomes.{code_of, body_of}
+use Rattle.http_words.specs.declared.connection.ConnStatus.TheVariants as status
 
 -- the text of the response that tells an outcome
 abbrev pub text_of : Outcome → List ℕ

@@ -1,7 +1,6 @@
 -- The list of digests by which microdescriptors are asked for.
 use Rattle.std.specs.Prelude.{◌≡◌, ℕ, ◌==◌, nat_le, Bool, List, [], ◌∷◌, length, if◌then◌else◌, Option, Some, None}
-use Rattle.std.specs.Borrow.{Bor}
-use Rattle.std.specs.List.{slice_split}
+use Rattle.std.specs.{Borrow.Bor, List.slice_split}
 use Rattle.dir_bytes.specs.Fields.{base64}
 
 -- the most digests that one request may ask for

@@ -2,8 +2,7 @@
 use Rattle.std.specs.Prelude.{◌≡◌, ℕ, List}
 use Rattle.dir_http.specs.declared.response.Response.{Response}
 use Rattle.http_words.specs.Replies as replies
-use Rattle.http_words.specs.declared.outcome.Outcome.{Outcome}
-use Rattle.http_words.specs.declared.outcome.Outcome.TheVariants.{Replied, Found}
+use Rattle.http_words.specs.declared.outcome.Outcome.{Outcome, TheVariants.{Replied, Found}}
 
 -- the code of each outcome; a document that is found has 200
 abbrev pub code_of : Outcome → ℕ

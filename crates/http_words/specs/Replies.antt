@@ -1,13 +1,10 @@
 -- The answers that are no documents: the code and the body of each.
 use Rattle.std.specs.Prelude.{◌≡◌, ℕ, List, [], ◌∷◌, ◌++◌, codes, decimal, Option, Some, None}
 use Rattle.httparse.specs.Ascii.{line_feed}
-use Rattle.dir_http.specs.declared.fault.HttpFault.{HttpFault}
+use Rattle.dir_http.specs.declared.{fault.HttpFault.HttpFault, response.Response.Response}
 use Rattle.dir_http.specs.declared.fault.HttpFault.TheVariants as fault
-use Rattle.dir_http.specs.declared.response.Response.{Response}
-use Rattle.http_words.specs.Words.{word_text}
-use Rattle.http_words.specs.declared.word.Word.{Word}
+use Rattle.http_words.specs.{Words.word_text, declared.{word.Word.Word, replies.Reply.Reply}}
 use Rattle.http_words.specs.declared.word.Word.TheVariants as word
-use Rattle.http_words.specs.declared.replies.Reply.{Reply}
 use Rattle.http_words.specs.declared.replies.Reply.TheVariants as reply
 
 -- the code of each answer

@@ -1,7 +1,5 @@
 // The list of digests by which microdescriptors are asked for.
-ghost use Rattle.std.specs.Prelude.{◌≡◌, ◌≤◌, IfOk, length};
-ghost use Rattle.std.specs.List.{position_or_len};
-ghost use Rattle.std.specs.Option.{option_map};
+ghost use Rattle.std.specs.{Prelude.{◌≡◌, ◌≤◌, IfOk, length}, List.position_or_len, Option.option_map};
 ghost use Rattle.dir_bytes.specs.Fields as fields;
 ghost use Rattle.http_words.specs.DigestLists.{SplitsOff, digest_list, is_hyphen};
 

@@ -1,18 +1,14 @@
 -- What stands behind the first byte that a document may not have changes nothing.
 use Rattle.std.proofs.Common.{◌≡◌, ℕ, zero, suc, ◌+◌, ◌-◌, ◌<◌, ◌≤◌, ◌⊎◌, Bool, true, false, cond, eqb, List, [], ◌∷◌}
 use Rattle.std.proofs.Common.{take, Option, Some, None, Result, Ok, Err, refl, sym, ap, subst, ◌∙◌, inl, inr, arith}
-use Rattle.std.specs.Prelude.{min, nat_lt, nat_le, ◌&&◌}
-use Rattle.std.proofs.lemmas.Bool.{cases_lt, lt-leb, lt-ltb, le-ltb}
+use Rattle.std.{proofs.lemmas.Bool.{cases_lt, lt-leb, lt-ltb, le-ltb}, specs.Prelude.{min, nat_lt, nat_le, ◌&&◌}}
 use Rattle.item_terms.specs.declared.fault.DocReason.TheVariants.{LineTooLong, DocumentTooLong, ObjectTooLong}
-use Rattle.item_terms.specs.declared.fault.DocFault.{DocFault}
-use Rattle.item_terms.specs.Lines.{Line, lines, onto, size}
-use Rattle.item_terms.specs.Words.{nul_in, begin_words}
-use Rattle.item_terms.specs.Faults.{at, or_else, unterminated_fault, nul_fault, line_fault, object_line_fault, max_line}
-use Rattle.item_terms.specs.Faults.{max_object}
-use Rattle.item_terms.specs.Steps.{Item, Open, Step, step, nothing, keyword_line, object_lines, open_item}
-use Rattle.item_terms.specs.Steps.{item_unless, open_unless, step_unless, object_step, line_item, read_line}
-use Rattle.item_terms.specs.Steps.{starts_dash, first_object_line}
-use Rattle.item_terms.specs.Items.{Contents, contents_of, also, proceed, failed_contents}
+use Rattle.item_terms.specs.{declared.fault.DocFault.DocFault, Lines.{Line, lines, onto, size}, Words.nul_in}
+use Rattle.item_terms.specs.{Words.begin_words, Faults.{at, or_else, unterminated_fault, nul_fault, line_fault}}
+use Rattle.item_terms.specs.{Faults.{object_line_fault, max_line, max_object}, Steps.{Item, Open, Step, step, nothing}}
+use Rattle.item_terms.specs.Steps.{keyword_line, object_lines, open_item, item_unless, open_unless, step_unless}
+use Rattle.item_terms.specs.{Steps.{object_step, line_item, read_line, starts_dash, first_object_line}, Items.Contents}
+use Rattle.item_terms.specs.Items.{contents_of, also, proceed, failed_contents}
 use Rattle.item_feeder.specs.Limits.{LimitIsEnough}
 
 -- ---- lines that are alike

@@ -1,22 +1,15 @@
 -- What comes next of bytes that reach the document's limit, where one byte stands beside them.
-use Rattle.std.proofs.Common.{◌≡◌, ℕ, ◌+◌, ◌-◌, ◌≤◌, Bool, true, false, eqb, List, [], ◌∷◌, ◌++◌, length, drop}
-use Rattle.std.proofs.Common.{Some, None, refl, sym, ap, ◌∙◌, arith}
+use Rattle.std.proofs.Common.{◌≡◌, ℕ, ◌+◌, ◌-◌, ◌≤◌, Bool, true, false, eqb, List, [], ◌∷◌, ◌++◌, length, drop, Some}
+use Rattle.std.proofs.{Common.{None, refl, sym, ap, ◌∙◌, arith}, lemmas.{Bool.{eq-eqb, false≢true}, List.append-nil}}
+use Rattle.std.proofs.lemmas.List.{append_assoc, length-append, length-drop, drop_all, drop-append-le}
 use Rattle.std.specs.Prelude.{◌&&◌}
-use Rattle.std.proofs.lemmas.Bool.{eq-eqb, false≢true}
-use Rattle.std.proofs.lemmas.List.{append-nil, append_assoc, length-append, length-drop, drop_all, drop-append-le}
-use Rattle.item_terms.specs.declared.fault.DocReason.TheVariants.{DocumentTooLong}
-use Rattle.item_terms.specs.declared.fault.DocFault.{DocFault}
-use Rattle.item_terms.specs.Faults.{at}
+use Rattle.item_terms.specs.{declared.fault.{DocReason.TheVariants.DocumentTooLong, DocFault.DocFault}, Faults.at}
 use Rattle.item_terms.specs.Items.{Contents, contents, contents_of, nothing, also, failed_contents}
-use Rattle.dirdoc_grammar.specs.declared.cursor.Cursor.{Cursor}
+use Rattle.dirdoc_grammar.specs.{declared.{cursor.Cursor.Cursor, take.Take.Take}, Cursors.fed_by, Feeding.{Fed, Takes}}
+use Rattle.dirdoc_grammar.specs.{Feeding.left_with, Seen.{seen_item, LiesInOrder}}
 use Rattle.dirdoc_grammar.specs.declared.item.Item as item_
-use Rattle.dirdoc_grammar.specs.declared.take.Take.{Take}
 use Rattle.dirdoc_grammar.specs.declared.take.Take.TheVariants as take_
-use Rattle.dirdoc_grammar.specs.Cursors.{fed_by}
-use Rattle.dirdoc_grammar.specs.Feeding.{Fed, Takes, left_with}
-use Rattle.dirdoc_grammar.specs.Seen.{seen_item, LiesInOrder}
-use Rattle.item_feeder.specs.Feeders.{behind_place, fed_with, Shows}
-use Rattle.item_feeder.proofs.LastWithin.{over, past, stays, goes}
+use Rattle.item_feeder.{specs.Feeders.{behind_place, fed_with, Shows}, proofs.LastWithin.{over, past, stays, goes}}
 use Rattle.item_feeder.proofs.OneMore.{contents_with_one_more_byte}
 
 -- the bytes are all that the document may have

@@ -1,16 +1,17 @@
 -- The place of a document's fault is no further than its limit, or the longest line behind its bytes.
-use Rattle.std.proofs.Common.{◌≡◌, ℕ, ◌+◌, ◌-◌, ◌≤◌, Bool, true, false, cond, eqb, List, [], ◌∷◌, length, Option, Some, None, Result, Ok, Err, refl, arith}
-use Rattle.std.specs.Prelude.{min, not, nat_lt, nat_le, ◌&&◌, IfSome}
-use Rattle.std.specs.List.{prefix_len}
-use Rattle.std.proofs.lemmas.List.Sums.{prefix_len-le-length}
-use Rattle.item_terms.specs.declared.fault.DocReason.TheVariants.{Keyword, Unterminated, LineTooLong, DocumentTooLong, ObjectTooLong, ObjectBase64, ObjectEnd}
-use Rattle.item_terms.specs.declared.fault.DocFault.{DocFault}
-use Rattle.item_terms.specs.Lines.{Line, lines, onto, size}
-use Rattle.item_terms.specs.Words.{nul_in, is_blank_line, is_keyword_line, begin_words, is_end_line}
-use Rattle.item_terms.specs.Base64Text.{is_body}
-use Rattle.item_terms.specs.Faults.{at, or_else, too_long, unterminated_fault, nul_fault, line_fault, object_line_fault, max_line, max_object}
-use Rattle.item_terms.specs.Steps.{Item, Open, Step, step, nothing, keyword_line, object_lines, keyword_item, begun_object, with_line, open_item, item_unless, open_unless, step_unless, object_step, line_item, read_line, starts_dash, first_object_line, with_object}
-use Rattle.item_terms.specs.Items.{Contents, contents, contents_of, also, proceed, at_end}
+use Rattle.std.proofs.Common.{◌≡◌, ℕ, ◌+◌, ◌-◌, ◌≤◌, Bool, true, false, cond, eqb, List, [], ◌∷◌, length, Option, Some}
+use Rattle.std.proofs.{Common.{None, Result, Ok, Err, refl, arith}, lemmas.List.Sums.prefix_len-le-length}
+use Rattle.std.specs.{Prelude.{min, not, nat_lt, nat_le, ◌&&◌, IfSome}, List.prefix_len}
+use Rattle.item_terms.specs.declared.fault.DocReason.TheVariants.{Keyword, Unterminated, LineTooLong, DocumentTooLong}
+use Rattle.item_terms.specs.declared.fault.DocReason.TheVariants.{ObjectTooLong, ObjectBase64, ObjectEnd}
+use Rattle.item_terms.specs.{declared.fault.DocFault.DocFault, Lines.{Line, lines, onto, size}, Words.nul_in}
+use Rattle.item_terms.specs.{Words.{is_blank_line, is_keyword_line, begin_words, is_end_line}, Base64Text.is_body}
+use Rattle.item_terms.specs.Faults.{at, or_else, too_long, unterminated_fault, nul_fault, line_fault, object_line_fault}
+use Rattle.item_terms.specs.{Faults.{max_line, max_object}, Steps.{Item, Open, Step, step, nothing, keyword_line}}
+use Rattle.item_terms.specs.Steps.{object_lines, keyword_item, begun_object, with_line, open_item, item_unless}
+use Rattle.item_terms.specs.Steps.{open_unless, step_unless, object_step, line_item, read_line, starts_dash}
+use Rattle.item_terms.specs.{Steps.{first_object_line, with_object}, Items.{Contents, contents, contents_of, also}}
+use Rattle.item_terms.specs.Items.{proceed, at_end}
 
 -- ---- the bytes of lines
 

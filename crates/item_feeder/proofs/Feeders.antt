@@ -1,20 +1,14 @@
 -- Bytes that are fed.
 use Rattle.std.proofs.Common.{◌≡◌, ℕ, ◌+◌, ◌-◌, ◌<◌, ◌≤◌, ◌^◌, Bool, true, false, List, [], ◌∷◌, ◌++◌, length, take}
-use Rattle.std.proofs.Common.{drop, refl, sym, ap, subst, ◌∙◌, arith}
-use Rattle.std.specs.Prelude.{is_some, option_to_list, IfSome, Option, Some, None}
-use Rattle.std.proofs.lemmas.Bool.{false≢true}
-use Rattle.std.proofs.lemmas.List.{append-nil, append_assoc, length-append, length-drop, length-take, drop-append-le}
-use Rattle.std.proofs.Math.Seq.{take-add, take-append-add}
-use Rattle.item_terms.specs.declared.fault.DocFault.{DocFault}
-use Rattle.item_terms.specs.Items.{Contents, contents, nothing, failed_contents}
-use Rattle.dirdoc_grammar.specs.declared.cursor.Cursor.{Cursor}
-use Rattle.dirdoc_grammar.specs.declared.take.Take.{Take}
+use Rattle.std.proofs.{Common.{drop, refl, sym, ap, subst, ◌∙◌, arith}, lemmas.{Bool.false≢true, List.append-nil}}
+use Rattle.std.proofs.lemmas.List.{append_assoc, length-append, length-drop, length-take, drop-append-le}
+use Rattle.std.{proofs.Math.Seq.{take-add, take-append-add}, specs.Prelude.{is_some, option_to_list, IfSome, Option}}
+use Rattle.std.specs.Prelude.{Some, None}
+use Rattle.item_terms.specs.{declared.fault.DocFault.DocFault, Items.{Contents, contents, nothing, failed_contents}}
+use Rattle.dirdoc_grammar.specs.{declared.{cursor.Cursor.Cursor, take.Take.Take}, Cursors.{IsAt, fed_by}, Feeding.Fed}
+use Rattle.dirdoc_grammar.{specs.Feeding.{MayFollow, Takes}, proofs.Cursors.at_more}
 use Rattle.dirdoc_grammar.specs.declared.take.Take.TheVariants as take_
-use Rattle.dirdoc_grammar.specs.Cursors.{IsAt, fed_by}
-use Rattle.dirdoc_grammar.specs.Feeding.{Fed, MayFollow, Takes}
-use Rattle.item_feeder.specs.Feeders.{fed_with, IfFault, KeepsWithin}
-use Rattle.dirdoc_grammar.proofs.Cursors.{at_more}
-use Rattle.item_feeder.proofs.FaultPlaces.{fault_within}
+use Rattle.item_feeder.{specs.Feeders.{fed_with, IfFault, KeepsWithin}, proofs.FaultPlaces.fault_within}
 
 -- nothing stands beside the bytes, or they are as many as the document may have
 pub beside_none : (beside : Option ℕ) → (is_some beside ≡ false) → beside ≡ None

@@ -1,22 +1,17 @@
 -- What one more byte behind the limit makes of what the bytes hold, and that a line within the limit keeps it.
 use Rattle.std.proofs.Common.{◌≡◌, ℕ, ◌+◌, ◌-◌, ◌<◌, ◌≤◌, ◌⊎◌, Bool, true, false, cond, eqb, List, [], ◌∷◌, ◌++◌}
 use Rattle.std.proofs.Common.{length, Option, Some, None, Result, Ok, Err, refl, sym, ap, ◌∙◌, arith}
-use Rattle.std.specs.Prelude.{min, nat_lt, nat_le, ◌&&◌, IfSome}
-use Rattle.std.proofs.lemmas.Bool.{eq-eqb, ne_eqb, false≢true}
-use Rattle.item_terms.specs.declared.fault.DocReason.{DocReason}
-use Rattle.item_terms.specs.declared.fault.DocReason.TheVariants.{Keyword, Nul, Unterminated, ObjectWords}
-use Rattle.item_terms.specs.declared.fault.DocReason.TheVariants.{ObjectBase64, ObjectEnd, LineTooLong}
-use Rattle.item_terms.specs.declared.fault.DocReason.TheVariants.{DocumentTooLong, ObjectTooLong}
-use Rattle.item_terms.specs.declared.fault.DocFault.{DocFault}
-use Rattle.item_terms.specs.Lines.{Line, size}
-use Rattle.item_terms.specs.Words.{nul_in, is_blank_line, is_keyword_line, begin_words, is_end_line}
-use Rattle.item_terms.specs.Base64Text.{is_body}
-use Rattle.item_terms.specs.Faults.{at, or_else, too_long, unterminated_fault, nul_fault, line_fault, object_line_fault}
-use Rattle.item_terms.specs.Faults.{max_line, max_object}
-use Rattle.item_terms.specs.Steps.{Item, Open, Step, step, nothing, keyword_line, object_lines, keyword_item}
-use Rattle.item_terms.specs.Steps.{begun_object, with_line, with_object, open_item, item_unless, open_unless}
-use Rattle.item_terms.specs.Steps.{step_unless, object_step, line_item, read_line, starts_dash, first_object_line}
-use Rattle.item_terms.specs.Items.{Contents, contents, also, proceed, failed_contents}
+use Rattle.std.{proofs.lemmas.Bool.{eq-eqb, ne_eqb, false≢true}, specs.Prelude.{min, nat_lt, nat_le, ◌&&◌, IfSome}}
+use Rattle.item_terms.specs.declared.fault.DocReason.{DocReason, TheVariants.{Keyword, Nul, Unterminated, ObjectWords}}
+use Rattle.item_terms.specs.declared.fault.DocReason.TheVariants.{ObjectBase64, ObjectEnd, LineTooLong, DocumentTooLong}
+use Rattle.item_terms.specs.{declared.fault.{DocReason.TheVariants.ObjectTooLong, DocFault.DocFault}, Lines.Line}
+use Rattle.item_terms.specs.{Lines.size, Words.{nul_in, is_blank_line, is_keyword_line, begin_words, is_end_line}}
+use Rattle.item_terms.specs.{Base64Text.is_body, Faults.{at, or_else, too_long, unterminated_fault, nul_fault}}
+use Rattle.item_terms.specs.{Faults.{line_fault, object_line_fault, max_line, max_object}, Steps.{Item, Open, Step}}
+use Rattle.item_terms.specs.Steps.{step, nothing, keyword_line, object_lines, keyword_item, begun_object, with_line}
+use Rattle.item_terms.specs.Steps.{with_object, open_item, item_unless, open_unless, step_unless, object_step}
+use Rattle.item_terms.specs.{Steps.{line_item, read_line, starts_dash, first_object_line}, Items.{Contents, contents}}
+use Rattle.item_terms.specs.Items.{also, proceed, failed_contents}
 use Rattle.item_feeder.proofs.BehindLimit.{Rest}
 
 -- ---- what one more byte makes of what the bytes hold

@@ -1,13 +1,12 @@
 -- What is given of a document whose first byte stands so many places later.
-use Rattle.std.proofs.Common.{◌≡◌, ℕ, ◌+◌, ◌-◌, List, [], ◌∷◌, ◌++◌, drop, Option, Some, None, Result, Ok, Err, refl, sym, ap, subst, ◌∙◌, arith}
-use Rattle.item_terms.specs.declared.fault.DocFault.{DocFault}
-use Rattle.item_terms.specs.Items.{Item, Object, nothing, also, failed_contents}
-use Rattle.dirdoc_grammar.specs.declared.take.Take.{Take}
-use Rattle.dirdoc_grammar.specs.declared.take.Take.TheVariants as take_
-use Rattle.item_feeder.specs.Moving.{moved_object_if, moved_item, moved_fault, moved_fault_if, moved_items, moved_contents}
-use Rattle.dirdoc_grammar.specs.Feeding.{Fed, left_with, first_by, first_of, Settles, Takes}
-use Rattle.item_feeder.specs.Feeders.{behind_next, Shows, Moves}
+use Rattle.std.proofs.Common.{◌≡◌, ℕ, ◌+◌, ◌-◌, List, [], ◌∷◌, ◌++◌, drop, Option, Some, None, Result, Ok, Err, refl}
+use Rattle.std.proofs.Common.{sym, ap, subst, ◌∙◌, arith}
+use Rattle.item_terms.specs.{declared.fault.DocFault.DocFault, Items.{Item, Object, nothing, also, failed_contents}}
+use Rattle.dirdoc_grammar.specs.{declared.take.Take.Take, Feeding.{Fed, left_with, first_by, first_of, Settles, Takes}}
 use Rattle.dirdoc_grammar.specs.Seen.{seen_item}
+use Rattle.dirdoc_grammar.specs.declared.take.Take.TheVariants as take_
+use Rattle.item_feeder.specs.Moving.{moved_object_if, moved_item, moved_fault, moved_fault_if, moved_items}
+use Rattle.item_feeder.specs.{Moving.moved_contents, Feeders.{behind_next, Shows, Moves}}
 use Rattle.item_feeder.proofs.Shifts.{contents_moved}
 
 abbrev pub later : ℕ → Fed → Fed

@@ -1,21 +1,16 @@
 -- What a document holds whose bytes reach its limit, where one more byte follows them.
 use Rattle.std.proofs.Common.{◌≡◌, ℕ, ◌+◌, ◌-◌, ◌<◌, ◌≤◌, ◌⊎◌, Bool, true, false, cond, eqb, List, [], ◌∷◌, ◌++◌}
 use Rattle.std.proofs.Common.{length, Option, Some, None, refl, sym, ap, subst, ◌∙◌, inl, inr, arith}
-use Rattle.std.specs.Prelude.{min, nat_lt, nat_le, ◌&&◌}
-use Rattle.std.proofs.lemmas.Bool.{cases_lt, lt-leb, le-leb, le-ltb, eq-eqb, eqb-true, false≢true}
-use Rattle.item_terms.specs.declared.fault.DocReason.TheVariants.{Unterminated}
-use Rattle.item_terms.specs.declared.fault.DocReason.TheVariants.{LineTooLong}
-use Rattle.item_terms.specs.declared.fault.DocReason.TheVariants.{DocumentTooLong, ObjectTooLong}
-use Rattle.item_terms.specs.declared.fault.DocFault.{DocFault}
-use Rattle.item_terms.specs.Lines.{Line, lines, onto, size}
-use Rattle.item_terms.specs.Words.{nul_in}
-use Rattle.item_terms.specs.Faults.{at, or_else, too_long, nul_fault, line_fault}
-use Rattle.item_terms.specs.Faults.{max_line, max_object}
-use Rattle.item_terms.specs.Steps.{Item, Open, step, nothing, keyword_line, object_lines}
-use Rattle.item_terms.specs.Steps.{starts_dash}
-use Rattle.item_terms.specs.Items.{contents, contents_of, also, proceed, failed_contents, at_end}
-use Rattle.item_feeder.proofs.BehindLimit.{far_fault, stopped, stops, stops_far}
-use Rattle.item_feeder.proofs.LastWithin.{over, past, Fits, step_fits, in_front, after_step}
+use Rattle.std.{proofs.lemmas.Bool.{cases_lt, lt-leb, le-leb, le-ltb, eq-eqb, eqb-true, false≢true}, specs.Prelude.min}
+use Rattle.std.specs.Prelude.{nat_lt, nat_le, ◌&&◌}
+use Rattle.item_terms.specs.declared.fault.DocReason.TheVariants.{Unterminated, LineTooLong, DocumentTooLong}
+use Rattle.item_terms.specs.{declared.fault.{DocReason.TheVariants.ObjectTooLong, DocFault.DocFault}, Lines.Line}
+use Rattle.item_terms.specs.{Lines.{lines, onto, size}, Words.nul_in, Faults.{at, or_else, too_long, nul_fault}}
+use Rattle.item_terms.specs.{Faults.{line_fault, max_line, max_object}, Steps.{Item, Open, step, nothing, keyword_line}}
+use Rattle.item_terms.specs.{Steps.{object_lines, starts_dash}, Items.{contents, contents_of, also, proceed}}
+use Rattle.item_terms.specs.Items.{failed_contents, at_end}
+use Rattle.item_feeder.proofs.{BehindLimit.{far_fault, stopped, stops, stops_far}, LastWithin.{over, past, Fits}}
+use Rattle.item_feeder.proofs.LastWithin.{step_fits, in_front, after_step}
 
 -- ---- the lines where one more byte follows
 

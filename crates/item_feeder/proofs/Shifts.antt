@@ -1,16 +1,20 @@
 -- A document whose first byte stands so many places later holds the same items, as many places later.
-use Rattle.std.proofs.Common.{◌≡◌, ℕ, ◌+◌, ◌-◌, Bool, true, false, cond, List, [], ◌∷◌, length, Option, Some, None, Result, Ok, Err, refl, ap, ◌∙◌, arith}
-use Rattle.std.specs.Prelude.{min, nat_lt, nat_le, ◌&&◌}
+use Rattle.std.proofs.Common.{◌≡◌, ℕ, ◌+◌, ◌-◌, Bool, true, false, cond, List, [], ◌∷◌, length, Option, Some, None}
+use Rattle.std.{proofs.Common.{Result, Ok, Err, refl, ap, ◌∙◌, arith}, specs.Prelude.{min, nat_lt, nat_le, ◌&&◌}}
 use Rattle.std.specs.List.{prefix_len}
-use Rattle.item_terms.specs.declared.fault.DocReason.TheVariants.{Keyword, Nul, Unterminated, LineTooLong, DocumentTooLong, ObjectTooLong, ObjectBase64, ObjectEnd}
-use Rattle.item_terms.specs.declared.fault.DocFault.{DocFault}
-use Rattle.item_terms.specs.Lines.{Line, lines, size}
-use Rattle.item_terms.specs.Words.{nul_in, is_blank, is_blank_line, is_keyword_line, keyword, keyword_len, after_keyword, separator, arguments, begin_words, is_end_line}
-use Rattle.item_terms.specs.Base64Text.{is_body}
-use Rattle.item_terms.specs.Faults.{at, or_else, too_long, unterminated_fault, nul_fault, line_fault, object_line_fault, max_line, max_object}
-use Rattle.item_terms.specs.Steps.{Item, Open, Step, Object, step, nothing, keyword_line, object_lines, keyword_item, with_line, open_item, item_unless, open_unless, step_unless, object_step, line_item, read_line, starts_dash, first_object_line, with_object}
-use Rattle.item_terms.specs.Items.{Contents, contents, contents_of, also, proceed, at_end}
-use Rattle.item_feeder.specs.Moving.{moved_object, moved_item, moved_if, moved_fault, moved_fault_if, moved_open, moved_next, moved_step, moved_contents}
+use Rattle.item_terms.specs.declared.fault.DocReason.TheVariants.{Keyword, Nul, Unterminated, LineTooLong}
+use Rattle.item_terms.specs.declared.fault.DocReason.TheVariants.{DocumentTooLong, ObjectTooLong, ObjectBase64}
+use Rattle.item_terms.specs.{declared.fault.{DocReason.TheVariants.ObjectEnd, DocFault.DocFault}, Lines.{Line, lines}}
+use Rattle.item_terms.specs.{Lines.size, Words.{nul_in, is_blank, is_blank_line, is_keyword_line, keyword, keyword_len}}
+use Rattle.item_terms.specs.{Words.{after_keyword, separator, arguments, begin_words, is_end_line}, Base64Text.is_body}
+use Rattle.item_terms.specs.Faults.{at, or_else, too_long, unterminated_fault, nul_fault, line_fault, object_line_fault}
+use Rattle.item_terms.specs.{Faults.{max_line, max_object}, Steps.{Item, Open, Step, Object, step, nothing}}
+use Rattle.item_terms.specs.Steps.{keyword_line, object_lines, keyword_item, with_line, open_item, item_unless}
+use Rattle.item_terms.specs.Steps.{open_unless, step_unless, object_step, line_item, read_line, starts_dash}
+use Rattle.item_terms.specs.{Steps.{first_object_line, with_object}, Items.{Contents, contents, contents_of, also}}
+use Rattle.item_terms.specs.Items.{proceed, at_end}
+use Rattle.item_feeder.specs.Moving.{moved_object, moved_item, moved_if, moved_fault, moved_fault_if, moved_open}
+use Rattle.item_feeder.specs.Moving.{moved_next, moved_step, moved_contents}
 
 -- ---- faults of a line
 

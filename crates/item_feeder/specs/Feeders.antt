@@ -1,12 +1,9 @@
 -- What a feeder shows: what comes next of a document whose bytes arrive piece by piece.
-use Rattle.std.specs.Prelude.{◌≡◌, ℕ, ◌+◌, ◌-◌, ◌<◌, ◌≤◌, ◌^◌, Bool, IsTrue, List, ◌++◌, length, drop}
-use Rattle.std.specs.Prelude.{Option, Some, None, option_to_list}
+use Rattle.std.specs.Prelude.{◌≡◌, ℕ, ◌+◌, ◌-◌, ◌<◌, ◌≤◌, ◌^◌, Bool, IsTrue, List, ◌++◌, length, drop, Option, Some}
+use Rattle.std.specs.Prelude.{None, option_to_list}
 use Rattle.item_terms.specs.declared.fault.DocFault.{DocFault}
-use Rattle.dirdoc_grammar.specs.declared.cursor.Cursor.{Cursor}
-use Rattle.dirdoc_grammar.specs.declared.take.Take.{Take}
-use Rattle.dirdoc_grammar.specs.declared.take.Take.TheVariants.{Item, NotYet, End, Fault}
-use Rattle.dirdoc_grammar.specs.Cursors.{IsAt, WaitsIf}
-use Rattle.dirdoc_grammar.specs.Feeding.{Fed, Takes}
+use Rattle.dirdoc_grammar.specs.declared.{cursor.Cursor.Cursor, take.Take.{Take, TheVariants.{Item, NotYet, End}}}
+use Rattle.dirdoc_grammar.specs.{declared.take.Take.TheVariants.Fault, Cursors.{IsAt, WaitsIf}, Feeding.{Fed, Takes}}
 use Rattle.dirdoc_grammar.specs.Seen.{seen_item}
 use Rattle.item_feeder.specs.Moving.{moved_item, moved_fault}
 

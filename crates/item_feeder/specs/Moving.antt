@@ -1,7 +1,7 @@
 -- What a document holds whose first byte stands so many places later.
 use Rattle.std.specs.Prelude.{ℕ, ◌+◌, List, [], ◌∷◌, Option, Some, None, Result, Ok, Err}
-use Rattle.item_terms.specs.declared.fault.DocFault.{DocFault}
-use Rattle.item_terms.specs.Items.{Item, Object, Open, nothing, keyword_line, object_lines, Step, Contents}
+use Rattle.item_terms.specs.{declared.fault.DocFault.DocFault, Items.{Item, Object, Open, nothing, keyword_line}}
+use Rattle.item_terms.specs.Items.{object_lines, Step, Contents}
 
 abbrev pub moved_object : ℕ → Object → Object
 moved_object k object = record { words = object.words; start = k + object.start; text = object.text }
@@ -10,6 +10,7 @@ abbrev pub moved_object_if : ℕ → Option Object → Option Object
 moved_object_if k None = None
 moved_object_if k (Some object) = Some (moved_object k object)
 
+-- an item whose places count from so many bytes earlier
 abbrev pub moved_item : ℕ → Item → Item
 moved_item k item = record {
   keyword = item.keyword;

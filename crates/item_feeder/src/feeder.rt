@@ -1,12 +1,10 @@
 // A document whose bytes arrive piece by piece (dir-spec, "Document meta-format").
 
-ghost use Rattle.std.specs.Prelude.{◌+◌, ◌-◌, ◌<◌, ◌≡◌, ◌≤◌, ◌^◌, ◌++◌, [], drop, length, min, option_to_list, take, vec_len};
-ghost use Rattle.std.specs.Prelude.{false, true, Bool, None, Some, IfOk, OnErr, OnOk};
-ghost use Rattle.dirdoc_grammar.specs.Cursors.{IsAt};
-ghost use Rattle.dirdoc_grammar.specs.Feeding.{Fed, IfItem};
+ghost use Rattle.std.specs.Prelude.{◌+◌, ◌-◌, ◌<◌, ◌≡◌, ◌≤◌, ◌^◌, ◌++◌, [], drop, length, min, option_to_list, take};
+ghost use Rattle.std.specs.Prelude.{vec_len, false, true, Bool, None, Some, IfOk, OnErr, OnOk};
+ghost use Rattle.dirdoc_grammar.specs.{Cursors.IsAt, Feeding.{Fed, IfItem}, Seen.{seen_item, seen_object, LiesInOrder}};
 ghost use Rattle.item_feeder.specs.Feeders.{behind_place, fed_with, IfFault, Keeps, KeepsWithin, Moves, Shows};
 ghost use Rattle.item_feeder.specs.Moving.{moved_item, moved_fault, moved_object};
-ghost use Rattle.dirdoc_grammar.specs.Seen.{seen_item, seen_object, LiesInOrder};
 
 use dirdoc_grammar::{Cursor, DocFault, DocReason, Item, ObjectText, Take};
 use std::alloc::{AllocError, Global};

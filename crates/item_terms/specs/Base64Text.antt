@@ -1,7 +1,6 @@
 -- The lines between the first and the last line of an object: strict base64 (dir-spec, meta-format; RFC 4648, section 4).
 use Rattle.std.specs.Prelude.{ℕ, ◌+◌, ◌==◌, nat_le, Bool, not, ◌&&◌, List, [], ◌∷◌, filter, is_ok, if◌then◌else◌}
-use Rattle.base64.specs.GeneralPurpose.{decode_of}
-use Rattle.base64.specs.Engines.{standard}
+use Rattle.base64.specs.{GeneralPurpose.decode_of, Engines.standard}
 use Rattle.item_terms.specs.Bytes.{line_feed}
 
 -- each line has 1 to 64 bytes; count are there already of the one that is read

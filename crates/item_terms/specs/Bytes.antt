@@ -11,6 +11,7 @@ tab = 9
 abbrev pub line_feed : ℕ
 line_feed = 10
 
+-- what stands between the words of a line, the SP of the standard
 abbrev pub space : ℕ
 space = 32
 

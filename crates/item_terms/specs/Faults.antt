@@ -1,10 +1,8 @@
 -- The faults of a line, whatever stands in it: a limit that it passes, its missing NL, a NUL.
 use Rattle.std.specs.Prelude.{ℕ, ◌+◌, ◌-◌, nat_lt, nat_le, min, ◌&&◌, length, Option, Some, None, if◌then◌else◌}
-use Rattle.item_terms.specs.declared.fault.DocReason.TheVariants.{Nul, Unterminated, LineTooLong, DocumentTooLong, ObjectTooLong}
-use Rattle.item_terms.specs.declared.fault.DocReason.{DocReason}
-use Rattle.item_terms.specs.declared.fault.DocFault.{DocFault}
-use Rattle.item_terms.specs.Lines.{Line, size}
-use Rattle.item_terms.specs.Words.{nul_in}
+use Rattle.item_terms.specs.declared.fault.DocReason.TheVariants.{Nul, Unterminated, LineTooLong, DocumentTooLong}
+use Rattle.item_terms.specs.declared.fault.{DocReason.{TheVariants.ObjectTooLong, DocReason}, DocFault.DocFault}
+use Rattle.item_terms.specs.{Lines.{Line, size}, Words.nul_in}
 
 -- the bytes that a line may have, with its NL
 abbrev pub max_line : ℕ

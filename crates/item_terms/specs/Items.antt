@@ -1,9 +1,7 @@
 -- The items of a document, and its first fault (dir-spec, meta-format).
 use Rattle.std.specs.Prelude.{ℕ, ◌+◌, List, [], ◌∷◌, Option, Some, None, Result, Ok, Err, drop}
-use Rattle.item_terms.specs.declared.fault.DocReason.TheVariants.{Unterminated}
-use Rattle.item_terms.specs.declared.fault.DocFault.{DocFault}
-use Rattle.item_terms.specs.Lines.{Line, lines, size}
-use Rattle.item_terms.specs.Faults.{at}
+use Rattle.item_terms.specs.{declared.fault.{DocReason.TheVariants.Unterminated, DocFault.DocFault}, Lines.Line}
+use Rattle.item_terms.specs.{Lines.{lines, size}, Faults.at}
 pub use Rattle.item_terms.specs.Steps.{Item, Object, Open, nothing, keyword_line, object_lines, Step, step}
 
 -- the items up to the first fault, and that fault if there is one

@@ -1,12 +1,11 @@
 -- An item and its object, and what one more line makes (dir-spec, meta-format).
-use Rattle.std.specs.Prelude.{ℕ, ◌+◌, nat_lt, Bool, List, [], ◌∷◌, ◌++◌, Option, Some, None, Result, Ok, Err, if◌then◌else◌}
-use Rattle.item_terms.specs.declared.fault.DocReason.TheVariants.{Keyword, ObjectWords, ObjectBase64, ObjectEnd, ObjectTooLong}
-use Rattle.item_terms.specs.declared.fault.DocFault.{DocFault}
-use Rattle.item_terms.specs.Lines.{Line, size}
-use Rattle.item_terms.specs.Words.{is_blank_line, begins_dash, keyword, separator, arguments, argument_start, is_keyword_line, begin_words, is_end_line}
-use Rattle.item_terms.specs.Base64Text.{is_body}
-use Rattle.item_terms.specs.Faults.{max_object, at, line_fault, object_line_fault}
-use Rattle.item_terms.specs.Bytes.{line_feed}
+use Rattle.std.specs.Prelude.{ℕ, ◌+◌, nat_lt, Bool, List, [], ◌∷◌, ◌++◌, Option, Some, None, Result, Ok, Err}
+use Rattle.std.specs.Prelude.{if◌then◌else◌}
+use Rattle.item_terms.specs.declared.fault.DocReason.TheVariants.{Keyword, ObjectWords, ObjectBase64, ObjectEnd}
+use Rattle.item_terms.specs.{declared.fault.{DocReason.TheVariants.ObjectTooLong, DocFault.DocFault}, Lines.Line}
+use Rattle.item_terms.specs.{Lines.size, Words.{is_blank_line, begins_dash, keyword, separator, arguments}}
+use Rattle.item_terms.specs.{Words.{argument_start, is_keyword_line, begin_words, is_end_line}, Base64Text.is_body}
+use Rattle.item_terms.specs.{Faults.{max_object, at, line_fault, object_line_fault}, Bytes.line_feed}
 
 -- An object: the words of its first line, the place after that line, and what stands from there up to its last line.
 pub record Object : Type 0 where

@@ -1,6 +1,7 @@
 -- What a line says, without its NL: whether it is blank or a keyword line, its keyword and its arguments, and whether it
 -- begins or ends an object (dir-spec, meta-format).
-use Rattle.std.specs.Prelude.{ℕ, ◌+◌, ◌-◌, ◌==◌, nat_le, nat_eq, Bool, true, false, not, ◌&&◌, ◌||◌, List, [], ◌∷◌, length, take, drop, Option, Some, None, if◌then◌else◌, codes, slice_get, option_and_then}
+use Rattle.std.specs.Prelude.{ℕ, ◌+◌, ◌-◌, ◌==◌, nat_le, nat_eq, Bool, true, false, not, ◌&&◌, ◌||◌, List, [], ◌∷◌}
+use Rattle.std.specs.Prelude.{length, take, drop, Option, Some, None, if◌then◌else◌, codes, slice_get, option_and_then}
 use Rattle.std.specs.List.{list_all, position, prefix_len, suffix_len}
 use lib.Pointwise.{pointwise}
 use Rattle.item_terms.specs.Bytes.{nul, tab, space, hyphen}

@@ -1,12 +1,10 @@
 -- What the bytes of a service answer, byte by byte.
-use Rattle.std.proofs.Common.{◌≡◌, ◌≢◌, ℕ, zero, suc, ◌<◌, true, false, nat_eq, List, [], ◌∷◌, ◌++◌, length, take, drop, get_or, codes, Option, Some, None, IfSome, refl, sym, ap, subst, arith, take_all}
-use Rattle.std.proofs.lemmas.List.{drop_more}
-use Rattle.std.proofs.lemmas.Grind.{common_steps}
-use Rattle.std.specs.List.{starts_with}
-use Rattle.std.specs.Io.KnownBytes.{Appends, Consumes, IsAtEnd}
-use Rattle.key_port.specs.declared.verifier.VerifyAnswer.{VerifyAnswer}
+use Rattle.std.proofs.Common.{◌≡◌, ◌≢◌, ℕ, zero, suc, ◌<◌, true, false, nat_eq, List, [], ◌∷◌, ◌++◌, length, take, drop}
+use Rattle.std.proofs.Common.{get_or, codes, Option, Some, None, IfSome, refl, sym, ap, subst, arith, take_all, ◌∙◌}
+use Rattle.std.{proofs.lemmas.{List.drop_more, Grind.common_steps}, specs.{List.starts_with, Io.KnownBytes.Appends}}
+use Rattle.std.specs.Io.KnownBytes.{Consumes, IsAtEnd}
+use Rattle.key_port.specs.{declared.verifier.VerifyAnswer.VerifyAnswer, Exchanges.{Asks, answer_of}}
 use Rattle.key_port.specs.declared.verifier.VerifyAnswer.TheVariants as answer
-use Rattle.key_port.specs.Exchanges.{Asks, answer_of}
 
 -- a byte is itself
 pub same_byte : (n : ℕ) → nat_eq n n ≡ true
@@ -88,6 +86,16 @@ pub hears_nothing : (a : Option (List ℕ)) → IsAtEnd a → IfSome a (λ bytes
 unfolding answer_of
 hears_nothing None ended = tt
 hears_nothing (Some xs) ended = rw ended refl
+
+-- where some byte was read, one was there
+pub has_come : (a b : Option (List ℕ)) (read : List ℕ) → Consumes a b read → 0 < length read
+    → IfSome a (λ bytes. bytes ≢ [])
+has_come None b read taken some = tt
+has_come (Some xs) None read taken some = absurd taken
+has_come (Some xs) (Some ys) [] taken some = absurd (omega (arith, some))
+has_come (Some xs) (Some ys) (byte ∷ more) taken some = λ none.
+    let clash : (byte ∷ (more ++ ys)) ≡ [] = sym taken ∙ none in
+    cc clash
 
 -- a request that was written whole, whatever is answered
 pub asks_whole : (a b : Option (List ℕ)) (request : List ℕ) (r : VerifyAnswer) → Appends a b request → Asks a b request r

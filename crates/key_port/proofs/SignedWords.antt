@@ -1,23 +1,18 @@
 -- What stands in the line of a signature.
-use Rattle.std.proofs.Common.{◌+◌, ◌<◌, get_or, take_all, ◌≡◌, ◌≢◌, ℕ, zero, suc, ◌-◌, ◌/◌, ◌≤◌, true, false, nat_eq, not, List, [], ◌∷◌, ◌++◌, length, take, drop, codes, Option, Some, None, IfSome, Result, refl, sym, ap, subst, ◌∙◌, arith, Ok, Err, inl, inr, slice_index_or}
-use Rattle.std.specs.Prelude.{MatchResult}
-use Rattle.std.specs.Result.{result_unwrap_or}
-use Rattle.std.proofs.lemmas.Bool.{and_parts, cases_eq}
+use Rattle.std.proofs.Common.{◌+◌, ◌<◌, get_or, take_all, ◌≡◌, ◌≢◌, ℕ, zero, suc, ◌-◌, ◌/◌, ◌≤◌, true, false, nat_eq}
+use Rattle.std.proofs.Common.{not, List, [], ◌∷◌, ◌++◌, length, take, drop, codes, Option, Some, None, IfSome, Result}
+use Rattle.std.proofs.Common.{refl, sym, ap, subst, ◌∙◌, arith, Ok, Err, inl, inr, slice_index_or}
+use Rattle.std.proofs.lemmas.{Bool.{and_parts, cases_eq}, Grind.common_steps, List.Folds.list_all-append}
+use Rattle.std.proofs.{lemmas.List.{Sums.list_all-from_AllPass, append_assoc}, Math.Seq.take-append-add}
+use Rattle.std.{proofs.Math.Seq.take-append_seam, specs.{Prelude.MatchResult, Result.result_unwrap_or}}
 use Rattle.std.specs.Io.KnownBytes.{Appends, Consumes, IsAtEnd}
-use Rattle.std.proofs.lemmas.Grind.{common_steps}
-use Rattle.std.proofs.lemmas.List.Folds.{list_all-append}
-use Rattle.std.proofs.lemmas.List.Sums.{list_all-from_AllPass}
-use Rattle.std.proofs.lemmas.List.{append_assoc}
-use Rattle.std.proofs.Math.Seq.{take-append-add, take-append_seam}
-use Rattle.hex.specs.Hex.{IsBytes, encode_lower, decode_sized, is_hex_digit}
-use Rattle.hex.specs.declared.error.FromHexError.{FromHexError}
+use Rattle.hex.specs.{Hex.{IsBytes, encode_lower, decode_sized, is_hex_digit}, declared.error.FromHexError.FromHexError}
 use Rattle.hex.proofs.HexLemmas.{decode_of-encode_lower, decode_of-ok, decode_sized-encode_lower}
-use Rattle.key_port.specs.Requests.{hex_word, line_limit}
-use Rattle.key_port.specs.declared.signer.SignAnswer.{SignAnswer}
-use Rattle.key_port.specs.declared.signer.SignAnswer.TheVariants as sign
-use Rattle.key_port.specs.SignedLines.{signed_line, has_no_end, IsLine, IsSignedLine, GivesNone, FaultsByBytes, AsksToSign}
-use Rattle.key_port.proofs.Sizes.{length-encode_lower, length-signed_line}
+use Rattle.key_port.specs.{Requests.{hex_word, line_limit}, declared.signer.SignAnswer.SignAnswer}
+use Rattle.key_port.specs.SignedLines.{signed_line, has_no_end, IsLine, IsSignedLine, GivesNone, FaultsByBytes}
+use Rattle.key_port.{specs.SignedLines.AsksToSign, proofs.Sizes.{length-encode_lower, length-signed_line}}
 use Rattle.key_port.proofs.Answering.{other_byte}
+use Rattle.key_port.specs.declared.signer.SignAnswer.TheVariants as sign
 
 -- bytes that are there are a word of digits
 pub word_of_some : (bytes : List ℕ) → 0 < length bytes → hex_word bytes ≡ encode_lower bytes

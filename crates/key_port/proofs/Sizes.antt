@@ -1,10 +1,7 @@
 -- How long the parts of a request are.
-use Rattle.std.proofs.Common.{◌≡◌, ℕ, ◌+◌, ◌*◌, List, length, arith}
-use Rattle.std.proofs.lemmas.Grind.{common_steps}
-use Rattle.hex.specs.Hex.{encode_lower, lower_digits}
-use Rattle.hex.proofs.HexLemmas.{length-encode_with}
-use Rattle.key_port.specs.declared.verifier.KeyKind.{KeyKind}
-use Rattle.key_port.specs.Requests.{hex_word, kind_word, request_text}
+use Rattle.std.proofs.{Common.{◌≡◌, ℕ, ◌+◌, ◌*◌, List, length, arith}, lemmas.Grind.common_steps}
+use Rattle.hex.{specs.Hex.{encode_lower, lower_digits}, proofs.HexLemmas.length-encode_with}
+use Rattle.key_port.specs.{declared.verifier.KeyKind.KeyKind, Requests.{hex_word, kind_word, request_text}}
 use Rattle.key_port.specs.SignedLines.{sign_text, signed_line}
 
 -- two digits a byte

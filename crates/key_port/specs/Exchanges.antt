@@ -1,8 +1,6 @@
 -- One exchange with a key service: what is written, and what the answer is.
-use Rattle.std.specs.Prelude.{ℕ, nat_eq, if◌then◌else◌, List, take, codes}
-use Rattle.std.specs.List.{starts_with}
-use Rattle.std.specs.declared.option.Option.{Option}
-use Rattle.std.specs.Io.KnownBytes.{Appends, Consumes}
+use Rattle.std.specs.Prelude.{ℕ, ◌≢◌, nat_eq, if◌then◌else◌, List, [], take, codes, IfSome, Some, None}
+use Rattle.std.specs.{List.starts_with, declared.option.Option.Option, Io.KnownBytes.{Appends, Consumes, Keeps}}
 use Rattle.key_port.specs.declared.verifier.VerifyAnswer.{VerifyAnswer}
 use Rattle.key_port.specs.declared.verifier.VerifyAnswer.TheVariants as answer
 
@@ -31,3 +29,13 @@ abbrev pub Hears : Option (List ℕ) → Option (List ℕ) → VerifyAnswer → 
 Hears old new answer.Yes = Consumes old new yes_line
 Hears old new answer.No = Consumes old new no_line
 Hears old new answer.Fault = Unit {0}
+
+-- an answer of which no byte came is a fault
+abbrev pub answer_or_fault : Option VerifyAnswer → VerifyAnswer
+answer_or_fault (Some result) = result
+answer_or_fault None = answer.Fault
+
+-- for an answer some byte was there to be read, and without one none was read
+abbrev pub Comes : {A : Type 0} → Option (List ℕ) → Option (List ℕ) → Option A → Type 0
+Comes old new (Some result) = IfSome old (λ bytes. bytes ≢ [])
+Comes old new None = Keeps old new

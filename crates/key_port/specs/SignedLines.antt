@@ -1,13 +1,10 @@
 -- The lines by which a key service is asked for a signature, and gives it.
-use Rattle.std.specs.Prelude.{◌≡◌, ◌≢◌, ℕ, ◌≤◌, nat_eq, Bool, not, true, List, [], ◌∷◌, ◌++◌, length, take, codes}
-use Rattle.std.specs.declared.option.Option.{Option}
-use Rattle.std.specs.List.{list_all}
-use Rattle.std.specs.Io.KnownBytes.{Appends, Consumes}
+use Rattle.std.specs.Prelude.{◌≡◌, ◌≢◌, ℕ, ◌≤◌, nat_eq, Bool, not, true, List, [], ◌∷◌, ◌++◌, length, take, codes, Some}
+use Rattle.std.specs.{Prelude.None, declared.option.Option.Option, List.list_all, Io.KnownBytes.{Appends, Consumes}}
 use Rattle.hex.specs.Hex.{IsBytes}
-use Rattle.key_port.specs.declared.verifier.KeyKind.{KeyKind}
-use Rattle.key_port.specs.declared.signer.SignAnswer.{SignAnswer}
+use Rattle.key_port.specs.{declared.{verifier.KeyKind.KeyKind, signer.SignAnswer.SignAnswer}, Requests.hex_word}
+use Rattle.key_port.specs.Requests.{kind_word, line_limit}
 use Rattle.key_port.specs.declared.signer.SignAnswer.TheVariants as sign
-use Rattle.key_port.specs.Requests.{hex_word, kind_word, line_limit}
 
 -- the words `sign`, the kind, the key and the message, with single spaces, and NL
 unfoldable pub sign_text : KeyKind → List ℕ → List ℕ → List ℕ
@@ -28,6 +25,11 @@ abbrev pub HearsSignature : Option (List ℕ) → Option (List ℕ) → SignAnsw
 HearsSignature old new (sign.Signed signature) = Consumes old new (signed_line signature)
 HearsSignature old new sign.Fault = Unit {0}
 HearsSignature old new sign.Memory = (signature : List ℕ) × Consumes old new (signed_line signature)
+
+-- an answer of which no byte came is a fault
+abbrev pub signed_or_fault : Option SignAnswer → SignAnswer
+signed_or_fault (Some result) = result
+signed_or_fault None = sign.Fault
 
 -- no line of a signature begins these bytes, but one that is too long
 abbrev pub GivesNone : List ℕ → Type 0

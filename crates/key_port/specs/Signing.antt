@@ -2,10 +2,8 @@
 use Rattle.std.specs.Prelude.{◌≡◌, ℕ, ◌+◌, ◌-◌, ◌^◌, ◌≤◌, min, Bool, true, List, length}
 use Rattle.dir_bytes.specs.Causes.{Counts}
 use Rattle.hex.specs.Hex.{IsBytes}
-use Rattle.key_port.specs.declared.signer.SignAnswer.{SignAnswer}
+use Rattle.key_port.specs.{declared.{signer.SignAnswer.SignAnswer, verifier.KeyKind.KeyKind}, Answers.Relation}
 use Rattle.key_port.specs.declared.signer.SignAnswer.TheVariants as sign
-use Rattle.key_port.specs.declared.verifier.KeyKind.{KeyKind}
-use Rattle.key_port.specs.Answers.{Relation}
 
 -- how many bytes a signature may have
 abbrev pub signature_limit : ℕ

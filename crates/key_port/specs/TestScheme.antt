@@ -1,18 +1,13 @@
 -- The test scheme. It keeps no secret, and nothing is claimed of its strength.
-use Rattle.std.specs.Prelude.{◌≡◌, ◌↔◌, ℕ, Bool, true, false, List, ◌++◌, codes}
-use Rattle.std.specs.Str.{bytes_eq}
+use Rattle.std.specs.{Prelude.{◌≡◌, ◌↔◌, ℕ, Bool, true, false, List, ◌++◌, codes}, Str.bytes_eq}
 use Rattle.sha2.specs.Sha256.{sha256}
-use Rattle.dir_bytes.specs.Causes.{next_count}
-use Rattle.dir_bytes.specs.Memories.{is_to_fail}
-use Rattle.key_port.specs.declared.verifier.KeyKind.{KeyKind}
-use Rattle.key_port.specs.declared.verifier.KeyKind.TheVariants as kind
-use Rattle.key_port.specs.declared.verifier.VerifyAnswer.{VerifyAnswer}
-use Rattle.key_port.specs.declared.verifier.VerifyAnswer.TheVariants as answer
-use Rattle.key_port.specs.declared.signer.SignAnswer.{SignAnswer}
-use Rattle.key_port.specs.declared.signer.SignAnswer.TheVariants as sign
-use Rattle.key_port.specs.Answers.{Relation, faults_after}
+use Rattle.dir_bytes.specs.{Causes.next_count, Memories.is_to_fail}
+use Rattle.key_port.specs.declared.{verifier.{KeyKind.KeyKind, VerifyAnswer.VerifyAnswer}, signer.SignAnswer.SignAnswer}
+use Rattle.key_port.specs.{declared.test_keys.TestKeys.TestKeys, Answers.{Relation, faults_after}}
 use Rattle.key_port.specs.Signing.{faults_after_signing}
-use Rattle.key_port.specs.declared.test_keys.TestKeys.{TestKeys}
+use Rattle.key_port.specs.declared.verifier.KeyKind.TheVariants as kind
+use Rattle.key_port.specs.declared.verifier.VerifyAnswer.TheVariants as answer
+use Rattle.key_port.specs.declared.signer.SignAnswer.TheVariants as sign
 
 -- the digest of the eight bytes `test-sig`, the key and the message
 abbrev pub test_digest : List ℕ → List ℕ → List ℕ

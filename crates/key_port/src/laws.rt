@@ -1,6 +1,5 @@
 // Laws of the relations. There is nothing to run.
-ghost use Rattle.key_port.specs.Answers.{ExactlyOneHolds};
-ghost use Rattle.key_port.specs.Signing.{GivesWhatIsAccepted};
+ghost use Rattle.key_port.specs.{Answers.ExactlyOneHolds, Signing.GivesWhatIsAccepted};
 ghost use Rattle.key_port.specs.TestScheme.{AcceptsTestSignatures};
 
 use crate::signer::Signer;

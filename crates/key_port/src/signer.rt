@@ -1,8 +1,7 @@
 // What signs, with a count of its faults.
 ghost use Rattle.std.specs.Prelude.{◌≡◌, Bool, List, ℕ, IfOk};
 ghost use Rattle.hex.specs.Hex.{IsBytes};
-ghost use Rattle.key_port.specs.Signing.{CountsSigning, GivesBy};
-ghost use Rattle.key_port.specs.declared.signer.SignAnswer.{SignAnswer};
+ghost use Rattle.key_port.specs.{Signing.{CountsSigning, GivesBy}, declared.signer.SignAnswer.SignAnswer};
 ghost use Rattle.key_port.specs.declared.verifier.KeyKind.{KeyKind};
 
 use crate::verifier::KeyKind;

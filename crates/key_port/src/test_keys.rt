@@ -1,8 +1,7 @@
 // The test scheme as a verifier and a signer. It takes no memory but a signature's.
 ghost use Rattle.std.specs.Prelude.{◌≡◌, ◌≤◌, ◌++◌, IfOk, length, not};
 ghost use Rattle.hex.specs.Hex.{IsBytes};
-ghost use Rattle.key_port.specs.Answers.{AnswersBy, CountsAnswers};
-ghost use Rattle.key_port.specs.Signing.{CountsSigning, GivesBy};
+ghost use Rattle.key_port.specs.{Answers.{AnswersBy, CountsAnswers}, Signing.{CountsSigning, GivesBy}};
 ghost use Rattle.key_port.specs.TestScheme as scheme;
 
 use crate::signer::{SignAnswer, Signer, signature_text};

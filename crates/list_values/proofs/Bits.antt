@@ -1,9 +1,9 @@
 -- The bits of a range of numbers.
-use Rattle.std.proofs.Common.{◌≡◌, ℕ, zero, suc, ◌+◌, ◌-◌, ◌*◌, ◌/◌, ◌%◌, ◌^◌, ◌<◌, ◌≤◌, Bool, true, false, refl, ap, ap₂, ◌∙◌, arith}
-use Rattle.std.specs.Prelude.{◌==◌, ◌&&◌, bit_and, bit_or, min, max, nat_le, if◌then◌else◌, ◌||◌}
-use Rattle.std.specs.Int.{bit_at}
-use Rattle.std.proofs.lemmas.Bool.{leb-true, leb-false}
-use Rattle.std.proofs.lemmas.Nat.Bits.{shr_and_one, ones_shr, ones_shl, bit_at_and, bit_at_or, bit_at_ones, bit_at_ones_above, bit_at_mask_inside, bit_at_mask_below, bit_at-lt, bit_at-zero}
+use Rattle.std.proofs.Common.{◌≡◌, ℕ, zero, suc, ◌+◌, ◌-◌, ◌*◌, ◌/◌, ◌%◌, ◌^◌, ◌<◌, ◌≤◌, Bool, true, false, refl, ap}
+use Rattle.std.proofs.{Common.{ap₂, ◌∙◌, arith}, lemmas.{Bool.{leb-true, leb-false}, Nat.Bits.{shr_and_one, ones_shr}}}
+use Rattle.std.proofs.lemmas.Nat.Bits.{ones_shl, bit_at_and, bit_at_or, bit_at_ones, bit_at_ones_above}
+use Rattle.std.proofs.lemmas.Nat.Bits.{bit_at_mask_inside, bit_at_mask_below, bit_at-lt, bit_at-zero}
+use Rattle.std.specs.{Prelude.{◌==◌, ◌&&◌, bit_and, bit_or, min, max, nat_le, if◌then◌else◌, ◌||◌}, Int.bit_at}
 use Rattle.list_values.specs.Masks.{is_set}
 
 -- the bit that a shift brings to the front

@@ -1,7 +1,6 @@
 -- Texts with a byte between each two: the first, and then each behind that byte.
-use Rattle.std.proofs.Common.{◌≡◌, ℕ, suc, ◌+◌, ◌<◌, List, [], ◌∷◌, ◌++◌, length, map, get_or, drop, sym, ap, ◌∙◌, arith, length-append, drop-cons}
-use Rattle.std.specs.List.{join_with_byte}
-use Rattle.std.proofs.lemmas.List.{append-nil}
+use Rattle.std.proofs.Common.{◌≡◌, ℕ, suc, ◌+◌, ◌<◌, List, [], ◌∷◌, ◌++◌, length, map, get_or, drop, sym, ap, ◌∙◌}
+use Rattle.std.{proofs.{Common.{arith, length-append, drop-cons}, lemmas.List.append-nil}, specs.List.join_with_byte}
 use Rattle.list_values.specs.Lending.{behind_each}
 
 pub join-cons : (separator : ℕ) (first : List ℕ) (rest : List (List ℕ))

@@ -1,17 +1,12 @@
 -- Protocols whose numbers are bits, as a contract sees them.
 use Rattle.std.proofs.Common.{◌≡◌, ℕ, Bool, true, false, List, [], ◌∷◌, Some, None, Option, map, refl, sym, ap, ◌∙◌}
-use Rattle.std.specs.Prelude.{All, unwrap_or, if◌then◌else◌}
-use Rattle.std.specs.List.{find}
-use Rattle.std.specs.Option.{option_map}
-use Rattle.std.specs.Str.{bytes_eq}
-use Rattle.std.proofs.lemmas.List.Elements.{All-nil, All-cons, All-head, All-tail}
-use Rattle.dir_values.specs.Digests.{bytes_below}
-use Rattle.dir_values.proofs.Orders.{AllPairs-cons, AllPairs-head, AllPairs-tail, AllPairs-nil}
-use Rattle.list_values.specs.declared.named.Named.{Named}
-use Rattle.list_values.specs.Maps.{named_value, has_name, names_of, value_at, Ascend, with_value}
-use Rattle.list_values.specs.Masks.{numbers_of, listed_protocol, all_listed, listed_text}
-use Rattle.list_values.specs.Protocols.{numbers_at, protocol_text}
-use Rattle.list_values.proofs.NumberLists.{no_numbers}
+use Rattle.std.{proofs.lemmas.List.Elements.{All-nil, All-cons, All-head, All-tail}, specs.Prelude.{All, unwrap_or}}
+use Rattle.std.specs.{Prelude.if◌then◌else◌, List.find, Option.option_map, Str.bytes_eq}
+use Rattle.dir_values.{specs.Digests.bytes_below, proofs.Orders.{AllPairs-cons, AllPairs-head, AllPairs-tail}}
+use Rattle.dir_values.proofs.Orders.{AllPairs-nil}
+use Rattle.list_values.specs.{declared.named.Named.Named, Maps.{named_value, has_name, names_of, value_at, Ascend}}
+use Rattle.list_values.specs.{Maps.with_value, Masks.{numbers_of, listed_protocol, all_listed, listed_text}}
+use Rattle.list_values.{specs.Protocols.{numbers_at, protocol_text}, proofs.NumberLists.no_numbers}
 
 -- protocols with one more
 pub listed-with_value : (items : List (Named ℕ)) (name : List ℕ) (mask : ℕ)

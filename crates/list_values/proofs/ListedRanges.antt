@@ -1,12 +1,8 @@
 -- The numbers of ranges, one range after the other.
 use Rattle.std.proofs.Common.{◌≡◌, ℕ, ◌<◌, Bool, true, false, List, ◌∷◌, Some, None, Option, refl, sym, ap, ◌∙◌}
-use Rattle.std.specs.Prelude.{◌||◌, bit_or}
-use Rattle.std.specs.Option.{option_map}
-use Rattle.list_values.specs.declared.number_range.NumberRange.{NumberRange}
-use Rattle.list_values.specs.Masks.{is_set}
-use Rattle.list_values.specs.NumberSets.{in_range, in_ranges, numbers_that}
-use Rattle.list_values.specs.Protocols.{all_of}
-use Rattle.list_values.proofs.Bits.{set_either}
+use Rattle.std.specs.{Prelude.{◌||◌, bit_or}, Option.option_map}
+use Rattle.list_values.specs.{declared.number_range.NumberRange.NumberRange, Masks.is_set, NumberSets.in_range}
+use Rattle.list_values.{specs.{NumberSets.{in_ranges, numbers_that}, Protocols.all_of}, proofs.Bits.set_either}
 use Rattle.list_values.proofs.NumberLists.{same_numbers}
 
 -- the numbers of a mask, and of ranges that are left

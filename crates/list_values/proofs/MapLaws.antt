@@ -1,14 +1,9 @@
 -- What is found once a value was put in.
 use Rattle.std.proofs.Common.{◌≡◌, ℕ, Bool, true, false, List, [], ◌∷◌, Some, Option, refl, sym, ap, ◌∙◌}
-use Rattle.std.specs.Prelude.{if◌then◌else◌}
-use Rattle.std.specs.List.{find}
-use Rattle.std.specs.Option.{option_map}
-use Rattle.std.specs.Str.{bytes_eq}
-use Rattle.dir_values.specs.Digests.{bytes_below}
-use Rattle.dir_values.proofs.Orders.{apart, same_text}
-use Rattle.list_values.specs.declared.named.Named.{Named}
-use Rattle.list_values.specs.Laws.{ValuesAreFound}
-use Rattle.list_values.specs.Maps.{named_value, has_name, value_at, with_value}
+use Rattle.std.specs.{Prelude.if◌then◌else◌, List.find, Option.option_map, Str.bytes_eq}
+use Rattle.dir_values.{specs.Digests.bytes_below, proofs.Orders.{apart, same_text}}
+use Rattle.list_values.specs.{declared.named.Named.Named, Laws.ValuesAreFound, Maps.{named_value, has_name, value_at}}
+use Rattle.list_values.specs.Maps.{with_value}
 
 module _ {V : Type 0} where
   -- the value of the first entry, or what is found behind it

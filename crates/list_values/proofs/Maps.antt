@@ -1,24 +1,15 @@
 -- Values by their names: what a tree of borrowed names holds, and what one value more changes.
 use Rattle.std.proofs.Common.{◌≡◌, ℕ, Bool, true, false, List, [], ◌∷◌, Some, Option, refl, sym, ap, ◌∙◌}
-use Rattle.std.specs.Prelude.{All, if◌then◌else◌}
-use Rattle.std.specs.Borrow.{Bor}
-use Rattle.std.specs.BTreeMap.{insert_entry}
-use Rattle.std.specs.Map.{lookup}
-use Rattle.std.specs.Cmp.Lexicographic.{slice_cmp, texts_ties}
-use Rattle.std.specs.declared.cmp.Ordering.{Ordering}
-use Rattle.std.specs.declared.cmp.Ordering.TheVariants.{Less, Equal, Greater}
-use Rattle.std.specs.List.{find}
-use Rattle.std.specs.Option.{option_map}
-use Rattle.std.specs.Ordering.{nat_cmp, ordering_reverse, is_eq, match_ordering}
-use Rattle.std.specs.Str.{bytes_eq}
-use Rattle.std.proofs.lemmas.Cmp.{nat_list_cmp_total}
-use Rattle.std.proofs.lemmas.List.Elements.{All-cons, All-nil, All-tail, All-head, All-weaker}
-use Rattle.dir_values.specs.Digests.{is_less, bytes_below}
-use Rattle.dir_values.proofs.Orders.{below-trans, below_or_same, AllPairs-cons, AllPairs-head, AllPairs-tail, AllPairs-nil}
-use Rattle.dir_values.proofs.WordSets.{ties_as_one, borrowed_order}
-use Rattle.list_values.specs.declared.named.Named.{Named}
-use Rattle.list_values.specs.Lending.{entries_in}
-use Rattle.list_values.specs.Maps.{named_value, has_name, value_at, Ascend, with_value}
+use Rattle.std.proofs.lemmas.{Cmp.nat_list_cmp_total, List.Elements.{All-cons, All-nil, All-tail, All-head, All-weaker}}
+use Rattle.std.specs.{Prelude.{All, if◌then◌else◌}, Borrow.Bor, BTreeMap.insert_entry, Map.lookup}
+use Rattle.std.specs.{Cmp.Lexicographic.{slice_cmp, texts_ties}, declared.cmp.Ordering.{Ordering, TheVariants.Less}}
+use Rattle.std.specs.{declared.cmp.Ordering.TheVariants.{Equal, Greater}, List.find, Option.option_map}
+use Rattle.std.specs.{Ordering.{nat_cmp, ordering_reverse, is_eq, match_ordering}, Str.bytes_eq}
+use Rattle.dir_values.{specs.Digests.{is_less, bytes_below}, proofs.Orders.{below-trans, below_or_same, AllPairs-cons}}
+use Rattle.dir_values.proofs.{Orders.{AllPairs-head, AllPairs-tail, AllPairs-nil}, WordSets.ties_as_one}
+use Rattle.dir_values.proofs.WordSets.{borrowed_order}
+use Rattle.list_values.specs.{declared.named.Named.Named, Lending.entries_in, Maps.{named_value, has_name, value_at}}
+use Rattle.list_values.specs.Maps.{Ascend, with_value}
 
 module _ {V : Type 0} where
   -- how a name stands to the first of others, seen from that one

@@ -1,18 +1,12 @@
 -- The place of a name among ascending values, and what stands there.
-use Rattle.std.proofs.Common.{◌≡◌, ℕ, suc, ◌+◌, ◌<◌, ◌≤◌, Bool, true, false, List, [], ◌∷◌}
-use Rattle.std.proofs.Common.{None, length, get_or, refl, sym, ap, ◌∙◌, subst, ⊎_elim, arith}
-use Rattle.std.specs.Prelude.{All, if◌then◌else◌}
-use Rattle.std.specs.List.{prefix_len}
-use Rattle.std.specs.List.Sorted.{IsPartitionedBy}
-use Rattle.std.specs.Str.{bytes_eq}
-use Rattle.std.proofs.lemmas.Bool.{cases_order}
-use Rattle.std.proofs.lemmas.List.Elements.{All-head, All-tail, All-weaker}
-use Rattle.std.proofs.lemmas.List.Sums.{prefix_len_is}
-use Rattle.dir_values.specs.Digests.{bytes_below}
-use Rattle.dir_values.proofs.Orders.{below-trans, below_or_same, apart, apart_back, AllPairs-head, AllPairs-tail}
-use Rattle.list_values.specs.declared.named.Named.{Named}
-use Rattle.list_values.specs.Lending.{place_of, value_there}
-use Rattle.list_values.specs.Maps.{has_name, value_at, Ascend}
+use Rattle.std.proofs.Common.{◌≡◌, ℕ, suc, ◌+◌, ◌<◌, ◌≤◌, Bool, true, false, List, [], ◌∷◌, None, length, get_or, refl}
+use Rattle.std.proofs.{Common.{sym, ap, ◌∙◌, subst, ⊎_elim, arith}, lemmas.{Bool.cases_order, List.Elements.All-head}}
+use Rattle.std.{proofs.lemmas.List.{Elements.{All-tail, All-weaker}, Sums.prefix_len_is}, specs.Prelude.All}
+use Rattle.std.specs.{Prelude.if◌then◌else◌, List.{prefix_len, Sorted.IsPartitionedBy}, Str.bytes_eq}
+use Rattle.dir_values.{specs.Digests.bytes_below, proofs.Orders.{below-trans, below_or_same, apart, apart_back}}
+use Rattle.dir_values.proofs.Orders.{AllPairs-head, AllPairs-tail}
+use Rattle.list_values.specs.{declared.named.Named.Named, Lending.{place_of, value_there}, Maps.{has_name, value_at}}
+use Rattle.list_values.specs.Maps.{Ascend}
 
 -- how many pass a test in front, where all before a place pass and none does there
 pub front_is : {X : Type 0} (p : X → Bool) (xs : List X) (k : ℕ) → k ≤ length xs

@@ -1,11 +1,9 @@
 -- The numbers from 0 to 63 that pass a test.
-use Rattle.std.proofs.Common.{◌≡◌, ℕ, zero, suc, ◌+◌, ◌-◌, ◌<◌, ◌≤◌, Bool, true, false, cond, List, [], ◌∷◌, refl, sym, ap, ◌∙◌, arith, ⊎_elim}
-use Rattle.std.specs.Prelude.{◌==◌, filter, ◌||◌, bit_or}
-use Rattle.std.specs.List.{range_with_len}
-use Rattle.std.proofs.lemmas.Bool.{eq-eqb, ne_eqb, cases_order}
-use Rattle.list_values.specs.Masks.{is_set, numbers_of}
-use Rattle.list_values.specs.NumberSets.{numbers_from, numbers_that, has_number, united_numbers}
-use Rattle.list_values.proofs.Bits.{set_either, set_none}
+use Rattle.std.proofs.Common.{◌≡◌, ℕ, zero, suc, ◌+◌, ◌-◌, ◌<◌, ◌≤◌, Bool, true, false, cond, List, [], ◌∷◌, refl, sym}
+use Rattle.std.{proofs.{Common.{ap, ◌∙◌, arith, ⊎_elim}, lemmas.Bool.{eq-eqb, ne_eqb, cases_order}}, specs.Prelude.◌==◌}
+use Rattle.std.specs.{Prelude.{filter, ◌||◌, bit_or}, List.range_with_len}
+use Rattle.list_values.specs.{Masks.{is_set, numbers_of}, NumberSets.{numbers_from, numbers_that, has_number}}
+use Rattle.list_values.{specs.NumberSets.united_numbers, proofs.Bits.{set_either, set_none}}
 
 -- the numbers from one on begin with it
 pub from_step : (number : ℕ) → number < 64 → numbers_from number ≡ number ∷ numbers_from (number + 1)

@@ -1,9 +1,7 @@
 -- The first part of a text with commas, and its last one.
-use Rattle.std.proofs.Common.{◌≡◌, ℕ, suc, ◌+◌, ◌<◌, ◌≤◌, Bool, true, false, cond, not, List, [], ◌∷◌, length}
-use Rattle.std.proofs.Common.{take, drop}
-use Rattle.std.proofs.Common.{refl, ap, arith}
-use Rattle.std.specs.List.{onto_first, position_or_len}
-use Rattle.std.proofs.lemmas.List.Splits.{slice_split_first}
+use Rattle.std.proofs.Common.{◌≡◌, ℕ, suc, ◌+◌, ◌<◌, ◌≤◌, Bool, true, false, cond, not, List, [], ◌∷◌, length, take}
+use Rattle.std.{proofs.{Common.{drop, refl, ap, arith}, lemmas.List.Splits.slice_split_first}, specs.List.onto_first}
+use Rattle.std.specs.List.{position_or_len}
 use Rattle.list_values.specs.Parts.{is_comma, parts_of}
 
 pub first_part : (text : List ℕ) (n : ℕ) → n ≡ position_or_len is_comma text → n < length text

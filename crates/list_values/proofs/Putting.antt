@@ -1,10 +1,8 @@
 -- Values on a page, each behind a byte.
-use Rattle.std.proofs.Common.{◌≡◌, ℕ, ◌+◌, ◌<◌, ◌≤◌, List, [], ◌∷◌, ◌++◌, length, map, get_or, drop, Option, sym, ap, ◌∙◌}
-use Rattle.std.proofs.lemmas.List.{drop_all}
-use Rattle.text_page.specs.Pages.{Sheet, with_text}
-use Rattle.text_page.proofs.Pages.{with_text-joined, with_text-nothing}
-use Rattle.list_values.specs.Lending.{behind_each}
-use Rattle.list_values.proofs.Joining.{behind-drop}
+use Rattle.std.proofs.Common.{◌≡◌, ℕ, ◌+◌, ◌<◌, ◌≤◌, List, [], ◌∷◌, ◌++◌, length, map, get_or, drop, Option, sym, ap}
+use Rattle.std.proofs.{Common.◌∙◌, lemmas.List.drop_all}
+use Rattle.text_page.{specs.Pages.{Sheet, with_text}, proofs.Pages.{with_text-joined, with_text-nothing}}
+use Rattle.list_values.{specs.Lending.behind_each, proofs.Joining.behind-drop}
 
 -- once one was put there
 pub behind_more : {A : Type 0} (text : A → List ℕ) (separator : ℕ) (before after : Option Sheet) (values : List A) (i : ℕ) (value : A)

@@ -1,10 +1,9 @@
 -- The ranges of some numbers have these numbers.
-use Rattle.std.proofs.Common.{◌≡◌, ℕ, ◌+◌, ◌<◌, ◌≤◌, Bool, true, false, List, [], ◌∷◌, refl, sym, ap, ap₂, ◌∙◌, arith, ⊎_elim}
-use Rattle.std.specs.Prelude.{All, ◌==◌, nat_le, ◌&&◌, ◌||◌, if◌then◌else◌}
-use Rattle.std.proofs.lemmas.Bool.{eq-eqb, ne_eqb, eqb-true, le-leb, lt-leb, cases_order}
-use Rattle.std.proofs.lemmas.List.Elements.{All-nil, All-cons, All-head, All-tail}
-use Rattle.list_values.specs.declared.number_range.NumberRange.{NumberRange}
-use Rattle.list_values.specs.Laws.{RangesHaveTheirNumbers}
+use Rattle.std.proofs.Common.{◌≡◌, ℕ, ◌+◌, ◌<◌, ◌≤◌, Bool, true, false, List, [], ◌∷◌, refl, sym, ap, ap₂, ◌∙◌, arith}
+use Rattle.std.proofs.{Common.⊎_elim, lemmas.Bool.{eq-eqb, ne_eqb, eqb-true, le-leb, lt-leb, cases_order}}
+use Rattle.std.{proofs.lemmas.List.Elements.{All-nil, All-cons, All-head, All-tail}, specs.Prelude.{All, ◌==◌, nat_le}}
+use Rattle.std.specs.Prelude.{◌&&◌, ◌||◌, if◌then◌else◌}
+use Rattle.list_values.specs.{declared.number_range.NumberRange.NumberRange, Laws.RangesHaveTheirNumbers}
 use Rattle.list_values.specs.NumberSets.{in_range, in_ranges, with_number, ranges_of}
 
 abbrev IsUp : NumberRange → Type 0

@@ -1,9 +1,7 @@
 -- What the maps and sets of this crate mean.
-use Rattle.std.specs.Prelude.{◌≡◌, ℕ, List, Some, if◌then◌else◌}
-use Rattle.std.specs.Str.{bytes_eq}
-use Rattle.list_values.specs.declared.named.Named.{Named}
-use Rattle.list_values.specs.Maps.{value_at, with_value}
-use Rattle.list_values.specs.NumberSets.{has_number, in_ranges, ranges_of}
+use Rattle.std.specs.{Prelude.{◌≡◌, ℕ, List, Some, if◌then◌else◌}, Str.bytes_eq}
+use Rattle.list_values.specs.{declared.named.Named.Named, Maps.{value_at, with_value}, NumberSets.has_number}
+use Rattle.list_values.specs.NumberSets.{in_ranges, ranges_of}
 
 -- A value that is put in for a name is found for it, and nothing else changes.
 abbrev pub ValuesAreFound : (V : Type 0) → Type 0

@@ -1,16 +1,9 @@
 -- What the private functions of this crate say.
-use Rattle.std.specs.Prelude.{ℕ, List, [], ◌∷◌, ◌++◌, map, unwrap_or, ℤ, pos, Option, Some, None, option_and_then, slice_get}
-use Rattle.std.specs.Prelude.{if◌then◌else◌}
-use Rattle.std.specs.Borrow.{Bor}
-use Rattle.std.specs.List.{prefix_len}
-use Rattle.std.specs.Option.{option_map}
+use Rattle.std.specs.Prelude.{ℕ, List, [], ◌∷◌, ◌++◌, map, unwrap_or, ℤ, pos, Option, Some, None, option_and_then}
+use Rattle.std.specs.{Prelude.{slice_get, if◌then◌else◌}, Borrow.Bor, List.prefix_len, Option.option_map}
 use Rattle.dir_values.specs.Digests.{bytes_below}
-use Rattle.list_values.specs.declared.named.Named.{Named}
-use Rattle.list_values.specs.declared.number_range.NumberRange.{NumberRange}
-use Rattle.list_values.specs.Maps.{named_value, has_name}
-use Rattle.list_values.specs.NumberSets.{numbers_that, in_ranges}
-use Rattle.list_values.specs.Params.{number_in}
-use Rattle.list_values.specs.Parts.{parts_of}
+use Rattle.list_values.specs.{declared.{named.Named.Named, number_range.NumberRange.NumberRange}, Maps.named_value}
+use Rattle.list_values.specs.{Maps.has_name, NumberSets.{numbers_that, in_ranges}, Params.number_in, Parts.parts_of}
 use Rattle.list_values.specs.Protocols.{all_of, range_of, ranges_in}
 
 module _ {V : Type 0} where

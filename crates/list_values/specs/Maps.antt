@@ -1,8 +1,6 @@
 -- Values by their names.
-use Rattle.std.specs.Prelude.{◌≡◌, ℕ, Bool, true, List, [], ◌∷◌, AllPairs, map, Option, if◌then◌else◌}
-use Rattle.std.specs.List.{find}
-use Rattle.std.specs.Option.{option_map}
-use Rattle.std.specs.Str.{bytes_eq}
+use Rattle.std.specs.{Prelude.{◌≡◌, ℕ, Bool, true, List, [], ◌∷◌, AllPairs, map, Option, if◌then◌else◌}, List.find}
+use Rattle.std.specs.{Option.option_map, Str.bytes_eq}
 use Rattle.dir_values.specs.Digests.{bytes_below}
 use Rattle.list_values.specs.declared.named.Named.{Named}
 

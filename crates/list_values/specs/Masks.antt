@@ -1,9 +1,6 @@
 -- Sets of numbers from 0 to 63 as the bits of a number.
-use Rattle.std.specs.Prelude.{ℕ, ◌==◌, Bool, List, map}
-use Rattle.std.specs.Int.{bit_at}
-use Rattle.list_values.specs.declared.named.Named.{Named}
-use Rattle.list_values.specs.Maps.{named_value}
-use Rattle.list_values.specs.NumberSets.{numbers_that}
+use Rattle.std.specs.{Prelude.{ℕ, ◌==◌, Bool, List, map}, Int.bit_at}
+use Rattle.list_values.specs.{declared.named.Named.Named, Maps.named_value, NumberSets.numbers_that}
 use Rattle.list_values.specs.Protocols.{protocol_text}
 
 -- whether the bit of a number is set

@@ -1,7 +1,6 @@
 -- Sets of numbers from 0 to 63, as ascending lists, and the ranges in which they are written.
 use Rattle.std.specs.Prelude.{ℕ, ◌+◌, ◌-◌, ◌==◌, nat_le, Bool, ◌&&◌, ◌||◌, List, [], ◌∷◌, ◌++◌, filter, map, decimal}
-use Rattle.std.specs.Prelude.{if◌then◌else◌}
-use Rattle.std.specs.List.{list_any, join_with_byte, range_with_len}
+use Rattle.std.specs.{Prelude.if◌then◌else◌, List.{list_any, join_with_byte, range_with_len}}
 use Rattle.item_terms.specs.Bytes.{comma, hyphen}
 use Rattle.list_values.specs.declared.number_range.NumberRange.{NumberRange}
 

@@ -1,16 +1,11 @@
 -- Params: numbers by their names (dir-spec, the `params` line).
 use Rattle.std.specs.Prelude.{ℕ, List, [], ◌++◌, ◌∷◌, map, is_some, unwrap_or, ℤ, pos, Option, Result, if◌then◌else◌}
-use Rattle.std.specs.Fmt.{signed_decimal}
-use Rattle.std.specs.List.{fold, join_with_byte}
-use Rattle.item_terms.specs.Bytes.{space}
-use Rattle.item_terms.specs.Words.{words_of}
+use Rattle.std.specs.{Fmt.signed_decimal, List.{fold, join_with_byte}}
+use Rattle.item_terms.specs.{Bytes.space, Words.words_of}
 use Rattle.dir_bytes.specs.Fields.{signed_number}
-use Rattle.dir_values.specs.Arguments.{Argument, arguments_at}
-use Rattle.dir_values.specs.FlagSets.{unless_wrong, wrong_flag}
+use Rattle.dir_values.specs.{Arguments.{Argument, arguments_at}, FlagSets.{unless_wrong, wrong_flag}}
 use Rattle.dir_values.specs.declared.refusal.ValueRefusal.{ValueRefusal}
-use Rattle.list_values.specs.declared.named.Named.{Named}
-use Rattle.list_values.specs.Equations.{equals, left_side, right_side}
-use Rattle.list_values.specs.Maps.{with_value}
+use Rattle.list_values.specs.{declared.named.Named.Named, Equations.{equals, left_side, right_side}, Maps.with_value}
 
 -- the number of the param that a text spells
 abbrev pub number_in : List ℕ → Option ℤ

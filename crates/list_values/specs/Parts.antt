@@ -1,6 +1,5 @@
 -- The parts of a text between its commas.
-use Rattle.std.specs.Prelude.{◌≡◌, ℕ, ◌==◌, Bool, List, [], ◌∷◌, Option, Some, None, if◌then◌else◌}
-use Rattle.std.specs.Borrow.{Bor}
+use Rattle.std.specs.{Prelude.{◌≡◌, ℕ, ◌==◌, Bool, List, [], ◌∷◌, Option, Some, None, if◌then◌else◌}, Borrow.Bor}
 use Rattle.std.specs.List.{slice_split}
 use Rattle.item_terms.specs.Bytes.{comma}
 

@@ -1,22 +1,14 @@
 -- Versions of protocols: numbers from 0 to 63 by the protocols' names (dir-spec, the `recommended-..-protocols` and
 -- `required-..-protocols` lines).
-use Rattle.std.specs.Prelude.{ℕ, nat_le, Bool, not, ◌&&◌, List, [], ◌∷◌, ◌++◌, map, is_some, unwrap_or, Option, Some, None}
-use Rattle.std.specs.Prelude.{option_and_then, Result, if◌then◌else◌}
-use Rattle.std.specs.List.{fold, find, join_with_byte}
+use Rattle.std.specs.Prelude.{ℕ, nat_le, Bool, not, ◌&&◌, List, [], ◌∷◌, ◌++◌, map, is_some, unwrap_or, Option, Some}
+use Rattle.std.specs.{Prelude.{None, option_and_then, Result, if◌then◌else◌}, List.{fold, find, join_with_byte}}
 use Rattle.std.specs.Option.{option_map}
-use Rattle.item_terms.specs.Bytes.{space, hyphen}
-use Rattle.item_terms.specs.Words.{words_of}
-use Rattle.dir_values.specs.Arguments.{Argument, arguments_at}
-use Rattle.dir_values.specs.FlagSets.{is_name, unless_wrong}
-use Rattle.dir_values.specs.Numbers.{number_of}
-use Rattle.dir_values.specs.Versions.{has_mark, front_of, behind}
-use Rattle.dir_values.specs.declared.refusal.ValueRefusal.{ValueRefusal}
-use Rattle.list_values.specs.declared.named.Named.{Named}
-use Rattle.list_values.specs.declared.number_range.NumberRange.{NumberRange}
-use Rattle.list_values.specs.Equations.{equals, left_side, right_side}
-use Rattle.list_values.specs.Maps.{value_at, with_value}
-use Rattle.list_values.specs.NumberSets.{has_number, in_ranges, numbers_that, united_numbers, numbers_text}
-use Rattle.list_values.specs.Parts.{parts_of}
+use Rattle.item_terms.specs.{Bytes.{space, hyphen}, Words.words_of}
+use Rattle.dir_values.specs.{Arguments.{Argument, arguments_at}, FlagSets.{is_name, unless_wrong}, Numbers.number_of}
+use Rattle.dir_values.specs.{Versions.{has_mark, front_of, behind}, declared.refusal.ValueRefusal.ValueRefusal}
+use Rattle.list_values.specs.{declared.{named.Named.Named, number_range.NumberRange.NumberRange}, Equations.equals}
+use Rattle.list_values.specs.{Equations.{left_side, right_side}, Maps.{value_at, with_value}, NumberSets.has_number}
+use Rattle.list_values.specs.{NumberSets.{in_ranges, numbers_that, united_numbers, numbers_text}, Parts.parts_of}
 
 -- ---- what a text spells
 

@@ -2,9 +2,7 @@
 use Rattle.std.specs.Prelude.{ℕ, Bool, List, [], ◌∷◌, is_some, Option, Some, None, Result, if◌then◌else◌}
 use Rattle.std.specs.List.{list_all, join_with_byte}
 use Rattle.item_terms.specs.Bytes.{comma}
-use Rattle.dir_values.specs.Arguments.{Argument, arguments_at}
-use Rattle.dir_values.specs.FlagSets.{unless_wrong}
-use Rattle.dir_values.specs.Versions.{version_of}
+use Rattle.dir_values.specs.{Arguments.{Argument, arguments_at}, FlagSets.unless_wrong, Versions.version_of}
 use Rattle.dir_values.specs.declared.refusal.ValueRefusal.{ValueRefusal}
 use Rattle.list_values.specs.Parts.{parts_of}
 

@@ -16,9 +16,7 @@ pub(crate) struct NameMap<'a, V> {
 
 impl<'a, V> Model for NameMap<'a, V> {
     ghost use Rattle.std.specs.Prelude.{List};
-    ghost use Rattle.list_values.specs.declared.named.Named.{Named};
-    ghost use Rattle.list_values.specs.Maps.{Ascend};
-    ghost use Rattle.list_values.specs.Lending.{entries_in};
+    ghost use Rattle.list_values.specs.{declared.named.Named.Named, Maps.Ascend, Lending.entries_in};
 
     ghost Value = { List (Named V) };
 

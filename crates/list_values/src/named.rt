@@ -1,8 +1,6 @@
 // Values with names.
-ghost use Rattle.std.specs.Prelude.{◌≡◌, ◌≤◌, length, IfOk, OnOk, OnErr};
-ghost use Rattle.std.specs.List.{fold};
-ghost use Rattle.dir_values.specs.FlagSets.{with_flag};
-ghost use Rattle.dir_values.specs.WordSets.{HasFirst};
+ghost use Rattle.std.specs.{Prelude.{◌≡◌, ◌≤◌, length, IfOk, OnOk, OnErr}, List.fold};
+ghost use Rattle.dir_values.specs.{FlagSets.with_flag, WordSets.HasFirst};
 ghost use Rattle.list_values.specs.Lending as lending;
 ghost use Rattle.list_values.specs.Maps.{Ascend, names_of, value_at};
 

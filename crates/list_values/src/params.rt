@@ -1,9 +1,7 @@
 // Params of the network.
-ghost use Rattle.std.specs.Prelude.{◌≡◌, ◌==◌, ◌+◌, ◌<◌, ◌≤◌, ◌++◌, Some, IfOk, IsOk, OnOk, OnErr, length, slice_get, vec_len, vec_capacity};
-ghost use Rattle.std.specs.List.{fold};
-ghost use Rattle.dir_values.specs.FlagSets.{with_flag};
-ghost use Rattle.dir_values.specs.Refusals.{Reads};
-ghost use Rattle.dir_values.specs.WordSets.{HasFirst};
+ghost use Rattle.std.specs.Prelude.{◌≡◌, ◌==◌, ◌+◌, ◌<◌, ◌≤◌, ◌++◌, Some, IfOk, IsOk, OnOk, OnErr, length, slice_get};
+ghost use Rattle.std.specs.{Prelude.{vec_len, vec_capacity}, List.fold};
+ghost use Rattle.dir_values.specs.{FlagSets.with_flag, Refusals.Reads, WordSets.HasFirst};
 ghost use Rattle.text_page.specs.Pages.{with_text};
 ghost use Rattle.list_values.specs.Maps as maps;
 ghost use Rattle.list_values.specs.Params as its;
@@ -25,8 +23,7 @@ pub struct Params {
 
 impl Model for Params {
     ghost use Rattle.std.specs.Prelude.{List, ℤ};
-    ghost use Rattle.list_values.specs.declared.named.Named.{Named};
-    ghost use Rattle.list_values.specs.Maps.{Ascend};
+    ghost use Rattle.list_values.specs.{declared.named.Named.Named, Maps.Ascend};
 
     ghost Value = { List (Named ℤ) };
 

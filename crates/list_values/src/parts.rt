@@ -1,6 +1,5 @@
 // The parts of a text between commas, one after the other.
-ghost use Rattle.std.specs.Prelude.{◌≡◌, ◌+◌, ◌<◌, ◌≤◌, length, take, drop};
-ghost use Rattle.std.specs.List.{position_or_len};
+ghost use Rattle.std.specs.{Prelude.{◌≡◌, ◌+◌, ◌<◌, ◌≤◌, length, take, drop}, List.position_or_len};
 ghost use Rattle.list_values.specs.Parts.{is_comma, parts_of};
 
 use std::marker::Model;

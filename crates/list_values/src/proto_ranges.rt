@@ -1,9 +1,7 @@
 // Versions of protocols.
-ghost use Rattle.std.specs.Prelude.{◌≡◌, ◌==◌, ◌+◌, ◌<◌, ◌≤◌, ◌++◌, IfOk, IsOk, OnOk, OnErr, length, map, option_map, slice_get, vec_len, vec_capacity};
-ghost use Rattle.std.specs.List.{fold};
-ghost use Rattle.dir_values.specs.FlagSets.{with_flag};
-ghost use Rattle.dir_values.specs.Refusals.{Reads};
-ghost use Rattle.dir_values.specs.WordSets.{HasFirst};
+ghost use Rattle.std.specs.Prelude.{◌≡◌, ◌==◌, ◌+◌, ◌<◌, ◌≤◌, ◌++◌, IfOk, IsOk, OnOk, OnErr, length, map, option_map};
+ghost use Rattle.std.specs.{Prelude.{slice_get, vec_len, vec_capacity}, List.fold};
+ghost use Rattle.dir_values.specs.{FlagSets.with_flag, Refusals.Reads, WordSets.HasFirst};
 ghost use Rattle.text_page.specs.Pages.{with_text};
 ghost use Rattle.list_values.specs.Maps as maps;
 ghost use Rattle.list_values.specs.Masks as masks;
@@ -28,9 +26,7 @@ pub struct ProtoRanges {
 
 impl Model for ProtoRanges {
     ghost use Rattle.std.specs.Prelude.{List, ℕ};
-    ghost use Rattle.list_values.specs.declared.named.Named.{Named};
-    ghost use Rattle.list_values.specs.Maps.{Ascend};
-    ghost use Rattle.list_values.specs.Masks.{all_listed};
+    ghost use Rattle.list_values.specs.{declared.named.Named.Named, Maps.Ascend, Masks.all_listed};
 
     ghost Value = { List (Named (List ℕ)) };
 

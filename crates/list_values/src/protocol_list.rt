@@ -1,6 +1,5 @@
 // Texts of protocols.
-ghost use Rattle.std.specs.Prelude.{◌≡◌, ◌+◌, ◌<◌, ◌^◌, IfOk, is_some, length};
-ghost use Rattle.std.specs.Option.{option_map};
+ghost use Rattle.std.specs.{Prelude.{◌≡◌, ◌+◌, ◌<◌, ◌^◌, IfOk, is_some, length}, Option.option_map};
 ghost use Rattle.dir_values.specs.Arguments.{arguments_at};
 ghost use Rattle.item_terms.specs.Words.{words_of};
 ghost use Rattle.list_values.specs.Lending as lending;

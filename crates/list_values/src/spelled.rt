@@ -1,6 +1,6 @@
 // Values that have one text each, and lists of them.
-ghost use Rattle.std.specs.Prelude.{◌≡◌, ◌+◌, ◌≤◌, ◌++◌, ℕ, List, IsOk, OnOk, OnErr, length, map, vec_len, vec_capacity};
-ghost use Rattle.std.specs.List.{join_with_byte};
+ghost use Rattle.std.specs.Prelude.{◌≡◌, ◌+◌, ◌≤◌, ◌++◌, ℕ, List, IsOk, OnOk, OnErr, length, map, vec_len};
+ghost use Rattle.std.specs.{Prelude.vec_capacity, List.join_with_byte};
 ghost use Rattle.text_page.specs.Pages.{counted_length, with_text};
 ghost use Rattle.list_values.specs.Lending.{behind_each};
 

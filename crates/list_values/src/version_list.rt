@@ -1,8 +1,7 @@
 // Lists of versions of Tor.
-ghost use Rattle.std.specs.Prelude.{◌≡◌, ◌==◌, ◌+◌, ◌<◌, ◌≤◌, ◌++◌, ◌^◌, ◌∷◌, [], Some, IfOk, IsOk, OnOk, OnErr, length, slice_get, vec_len, vec_capacity};
-ghost use Rattle.dir_values.specs.Arguments.{arguments_at};
-ghost use Rattle.dir_values.specs.FlagSets.{has_flag};
-ghost use Rattle.dir_values.specs.Refusals.{Reads};
+ghost use Rattle.std.specs.Prelude.{◌≡◌, ◌==◌, ◌+◌, ◌<◌, ◌≤◌, ◌++◌, ◌^◌, ◌∷◌, [], Some, IfOk, IsOk, OnOk, OnErr};
+ghost use Rattle.std.specs.Prelude.{length, slice_get, vec_len, vec_capacity};
+ghost use Rattle.dir_values.specs.{Arguments.arguments_at, FlagSets.has_flag, Refusals.Reads};
 ghost use Rattle.text_page.specs.Pages.{with_text};
 ghost use Rattle.list_values.specs.Parts.{parts_of};
 ghost use Rattle.list_values.specs.VersionLists as versions;

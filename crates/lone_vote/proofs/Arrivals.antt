@@ -1,11 +1,9 @@
 -- What comes of a body before its last byte.
-use Rattle.std.proofs.Common.{◌≡◌, ◌∙◌, ℕ, ◌-◌, List, [], ◌++◌, length, take, drop, Option, Some, None, Ok, Err}
-use Rattle.std.proofs.Common.{sym, ap, append-nil, arith}
-use Rattle.std.specs.Io.KnownBytes.{Consumes}
-use Rattle.dir_http.specs.declared.fault.HttpFault.{HttpFault}
+use Rattle.std.proofs.Common.{◌≡◌, ◌∙◌, ℕ, ◌-◌, List, [], ◌++◌, length, take, drop, Option, Some, None, Ok, Err, sym}
+use Rattle.std.{proofs.Common.{ap, append-nil, arith}, specs.Io.KnownBytes.Consumes}
+use Rattle.dir_http.specs.{declared.{fault.HttpFault.HttpFault, head.Head.Head}, Requests.{EndsInBody, GivesBody}}
+use Rattle.dir_http.specs.Requests.{ReadsBody, body_ahead}
 use Rattle.dir_http.specs.declared.fault.HttpFault.TheVariants as fault
-use Rattle.dir_http.specs.declared.head.Head.{Head}
-use Rattle.dir_http.specs.Requests.{EndsInBody, GivesBody, ReadsBody, body_ahead}
 
 -- nothing was taken yet
 pub none_taken : (head : Head) (given : ℕ) (left : Option (List ℕ)) → given ≡ 0

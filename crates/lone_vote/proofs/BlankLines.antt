@@ -1,12 +1,8 @@
 -- Behind a document stands nothing but blank lines exactly where all of these lines are blank.
-use Rattle.std.proofs.Common.{◌≡◌, ◌∙◌, ℕ, ◌+◌, Bool, true, false, List, [], ◌∷◌, ◌++◌, length, Some, None}
-use Rattle.std.proofs.Common.{refl, ap}
-use Rattle.std.specs.Prelude.{◌&&◌, if◌then◌else◌}
+use Rattle.std.proofs.Common.{◌≡◌, ◌∙◌, ℕ, ◌+◌, Bool, true, false, List, [], ◌∷◌, ◌++◌, length, Some, None, refl, ap}
+use Rattle.std.{proofs.{Math.Seq.drop-append_seam, lemmas.Bool.and_parts}, specs.Prelude.{◌&&◌, if◌then◌else◌}}
 use Rattle.std.specs.List.{list_all}
-use Rattle.std.proofs.Math.Seq.{drop-append_seam}
-use Rattle.std.proofs.lemmas.Bool.{and_parts}
-use Rattle.item_terms.specs.Lines.{Line, lines, size}
-use Rattle.item_terms.specs.Words.{is_blank_line}
+use Rattle.item_terms.specs.{Lines.{Line, lines, size}, Words.is_blank_line}
 use Rattle.blank_lines.specs.Blanks.{after_blanks, first_other, is_blank}
 
 abbrev all_blank : List Line → Bool

@@ -1,23 +1,17 @@
 -- What is known of bytes that arrive, as a vote alone, whatever follows.
-use Rattle.std.proofs.Common.{◌≡◌, ◌∙◌, ℕ, ◌+◌, Bool, true, false, List, [], ◌++◌, length, take, drop}
-use Rattle.std.proofs.Common.{Ok, Err, sym, ap, subst, append_assoc, append-nil}
-use Rattle.std.proofs.lemmas.List.{take-append-drop}
+use Rattle.std.proofs.Common.{◌≡◌, ◌∙◌, ℕ, ◌+◌, Bool, true, false, List, [], ◌++◌, length, take, drop, Ok, Err, sym, ap}
+use Rattle.std.proofs.{Common.{subst, append_assoc, append-nil}, lemmas.List.take-append-drop}
 use Rattle.item_terms.specs.Lines.{lines}
 use Rattle.frame_terms.specs.declared.fault.ReadRefusal.TheVariants.{Frame}
 use Rattle.vote_terms.specs.Votes.{ReadVote}
 use Rattle.vote_doc.specs.Reading.{ReadsVote, vote_of}
-use Rattle.vote_feed.specs.declared.blanks.Blank.{Blank}
-use Rattle.vote_feed.specs.Blanks.{blank_of}
-use Rattle.vote_feed.specs.declared.fed.Fed.{Fed}
+use Rattle.vote_feed.specs.{declared.{blanks.Blank.Blank, fed.Fed.Fed}, Blanks.blank_of, Feeding.{Feeds, IsOpen}}
+use Rattle.vote_feed.{specs.Feeding.{IsWhole, are_blank_lines, end_of}, proofs.FedVotes.{end_or, whole_read}}
+use Rattle.vote_feed.proofs.{WholeVotes.whole_stay, EndedVotes.open_are_none}
 use Rattle.vote_feed.specs.declared.fed.Fed.TheVariants as fed
-use Rattle.vote_feed.specs.Feeding.{Feeds, IsOpen, IsWhole, are_blank_lines, end_of}
-use Rattle.vote_feed.proofs.FedVotes.{end_or, whole_read}
-use Rattle.vote_feed.proofs.WholeVotes.{whole_stay}
-use Rattle.vote_feed.proofs.EndedVotes.{open_are_none}
 use Rattle.blank_lines.specs.Blanks.{after_blanks}
-use Rattle.lone_vote.specs.Coming.{BeginsWith, IsVoteOf}
-use Rattle.lone_vote.specs.Alone.{IsVote, NoneIs}
-use Rattle.lone_vote.proofs.BlankLines.{lines_behind, no_other, none_other}
+use Rattle.lone_vote.{specs.{Coming.{BeginsWith, IsVoteOf}, Alone.{IsVote, NoneIs}}, proofs.BlankLines.lines_behind}
+use Rattle.lone_vote.proofs.BlankLines.{no_other, none_other}
 
 -- ---- a feeder's vote
 

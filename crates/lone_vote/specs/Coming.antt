@@ -2,12 +2,8 @@
 use Rattle.std.specs.Prelude.{◌≡◌, ℕ, List, ◌++◌, length, Ok}
 use Rattle.vote_doc.specs.Reading.{vote_of}
 use Rattle.vote_terms.specs.Votes.{ReadVote}
-use Rattle.vote_feed.specs.declared.blanks.Blank.{Blank}
-use Rattle.vote_feed.specs.Blanks.{blank_of}
-use Rattle.vote_feed.specs.Feeding.{IsOpen, IsWhole}
-use Rattle.lone_vote.specs.declared.coming.Known.{Known}
-use Rattle.lone_vote.specs.declared.coming.Known.TheVariants.{Coming, Whole, Other}
-use Rattle.lone_vote.specs.declared.coming.LoneVote.{LoneVote}
+use Rattle.vote_feed.specs.{declared.blanks.Blank.Blank, Blanks.blank_of, Feeding.{IsOpen, IsWhole}}
+use Rattle.lone_vote.specs.declared.coming.{Known.{Known, TheVariants.{Coming, Whole, Other}}, LoneVote.LoneVote}
 use Rattle.lone_vote.specs.Alone.{IsVote, NoneIs}
 
 -- this vote is read of the bytes, and all of them are its

@@ -1,8 +1,6 @@
 -- What is read of the body behind the head of an upload.
 use Rattle.std.specs.Prelude.{ℕ, List, Option, Result, Ok, Err}
-use Rattle.dir_http.specs.declared.fault.HttpFault.{HttpFault}
-use Rattle.dir_http.specs.declared.head.Head.{Head}
-use Rattle.dir_http.specs.Requests.{ReadsBody, body_ahead}
+use Rattle.dir_http.specs.{declared.{fault.HttpFault.HttpFault, head.Head.Head}, Requests.{ReadsBody, body_ahead}}
 use Rattle.vote_terms.specs.Votes.{ReadVote}
 use Rattle.lone_vote.specs.Alone.{IsFound, IsVote}
 

@@ -1,9 +1,7 @@
 // What is known of bytes that arrive, as a vote alone.
 ghost use Rattle.std.specs.Prelude.{◌≡◌, ◌≤◌, ◌++◌, ℕ, [], List, drop, length, IfOk};
-ghost use Rattle.vote_feed.specs.Blanks.{blank_of};
-ghost use Rattle.vote_feed.specs.Feeding.{IsWhole};
-ghost use Rattle.lone_vote.specs.Alone.{IsFound, IsVote};
-ghost use Rattle.lone_vote.specs.Coming.{HasCome, IsKnown, IsVoteOf};
+ghost use Rattle.vote_feed.specs.{Blanks.blank_of, Feeding.IsWhole};
+ghost use Rattle.lone_vote.specs.{Alone.{IsFound, IsVote}, Coming.{HasCome, IsKnown, IsVoteOf}};
 
 use dir_bytes::Memory;
 use frame_terms::ReadRefusal;

@@ -7,10 +7,11 @@ use key_port::{
     exchange_signing, request_fits, sign_request_fits,
 };
 use std::alloc::Global;
-use std::fs;
 use std::io::{Read, Write};
 use std::os::unix::net::UnixListener;
 use std::test::Fail;
+use std::time::Duration;
+use std::{fs, thread};
 
 type Connection = (MemorySource, MemorySink);
 
@@ -27,8 +28,16 @@ impl Dial for Connections {
 
     ghost gives = { λ before connection after. ⊤ };
 
+    ghost takes_back = { λ before failed after. ⊤ };
+
     fn dial(&mut self) -> Option<Connection> {
         self.others.pop()?
+    }
+
+    fn take_back(&mut self, failed: Connection)
+        ensures { ⊤ }
+    {
+        drop(failed);
     }
 }
 
@@ -111,9 +120,42 @@ fn a_failing_dial_and_an_endless_line_are_faults(rt: HostRuntime) -> Result<(), 
     Ok(())
 }
 
+// What a service sends that answers one question, the numbers of the read and the write that fail then, and whether the
+// second question is asked again.
+const CLOSING: [(&[u8], u64, u64, bool); 7] = [
+    (b"yes\n", 0, 0, true),
+    (b"yes\n", 5, 0, true),
+    (b"yes\n", 0, 3, true),
+    (b"yes\n", 0, 4, true),
+    (b"yes\nn", 0, 0, false),
+    (b"yes\nno\n", 6, 0, false),
+    (b"yes\nmaybe\n", 0, 0, false),
+];
+
+// Whether the second connection answers the second question, or the one behind it.
+fn goes_on(alloc: Global, first: Connection, again: bool) -> Result<bool, Fail> {
+    let mut keys = keys(
+        alloc,
+        Some(first),
+        Some(service(alloc, b"no\nyes\n", 0, 0)?),
+    )?;
+    if !answers(&mut keys, VerifyAnswer::Yes, 0) {
+        return Ok(false);
+    }
+    if again {
+        return Ok(answers(&mut keys, VerifyAnswer::No, 0));
+    }
+    Ok(answers(&mut keys, VerifyAnswer::Fault, 1) && answers(&mut keys, VerifyAnswer::No, 1))
+}
+
 #[test]
 fn a_dialogue_goes_on_until_the_service_closes(rt: HostRuntime) -> Result<(), Fail> {
     let alloc = rt.alloc();
+    for (text, read, write, again) in CLOSING {
+        if !goes_on(alloc, service(alloc, text, read, write)?, again)? {
+            return Err(Fail::new("another connection"));
+        }
+    }
     let first = service(alloc, b"yes\nno\nyes\n", 0, 0)?;
     let mut keys = keys(alloc, Some(first), None)?;
     for (want, faults) in [
@@ -130,7 +172,7 @@ fn a_dialogue_goes_on_until_the_service_closes(rt: HostRuntime) -> Result<(), Fa
     Ok(())
 }
 
-// One exchange, or no answer where the request is too long.
+// One exchange, or no answer where the request is too long or no byte of one came.
 fn ask_over<S: Source, K: Sink>(
     source: &mut S,
     sink: &mut K,
@@ -141,7 +183,7 @@ fn ask_over<S: Source, K: Sink>(
     if !request_fits(kind, key, message, signature) {
         return None;
     }
-    Some(exchange(source, sink, kind, key, message, signature))
+    exchange(source, sink, kind, key, message, signature)
 }
 
 #[test]
@@ -185,8 +227,8 @@ fn a_service_gives_signatures(rt: HostRuntime) -> Result<(), Fail> {
             message,
         );
         let given = match answer {
-            SignAnswer::Signed(signature) => signature.as_bytes() == want,
-            SignAnswer::Fault | SignAnswer::Memory => false,
+            Some(SignAnswer::Signed(signature)) => signature.as_bytes() == want,
+            Some(SignAnswer::Fault) | Some(SignAnswer::Memory) | None => false,
         };
         if given != gives || sink.written.as_slice() != SIGN_LINE {
             return Err(Fail::new("another signature"));
@@ -220,7 +262,6 @@ fn a_unix_socket_is_dialed(rt: HostRuntime) -> Result<(), Fail> {
     let listener = UnixListener::bind(&rt, path)?;
     let connection = dial.dial();
     let (mut server, _) = listener.accept()?;
-    fs::remove_file(&rt, path)?;
     server.write_all(b"yes\n")?;
     let (mut source, mut sink) = connection.ok_or("no connection")?;
     let words: [&[u8]; 3] = [b"id", b"", b"+"];
@@ -231,6 +272,16 @@ fn a_unix_socket_is_dialed(rt: HostRuntime) -> Result<(), Fail> {
         || &request[..count] != b"verify identity 6964 - 2b\n".as_slice()
     {
         return Err(Fail::new("another dialogue"));
+    }
+    // The service is silent now, and then it is dialed no more for a second.
+    let silent = ask_over(&mut source, &mut sink, KeyKind::Identity, words);
+    dial.take_back((source, sink));
+    let rests = dial.dial().is_none();
+    thread::sleep(&rt, Duration::from_millis(1500));
+    let dials = dial.dial().is_some();
+    fs::remove_file(&rt, path)?;
+    if silent.is_some() || !rests || !dials {
+        return Err(Fail::new("no rest"));
     }
     Ok(())
 }

@@ -1,7 +1,6 @@
 // Flags of relays under rulings, and how often the hook is asked.
 ghost use Rattle.std.specs.Prelude.{◌≡◌};
-ghost use Rattle.flag_rules.specs.declared.ruling.Ruling.TheVariants.{Approve};
-ghost use Rattle.flag_rules.specs.Rules.{ruling_for};
+ghost use Rattle.flag_rules.specs.{declared.ruling.Ruling.TheVariants.Approve, Rules.ruling_for};
 
 use dir_values::Fingerprint;
 use flag_rules::{
@@ -47,7 +46,7 @@ pub(crate) fn names_under(
         identity: Fingerprint([number; 20]),
         ruling,
     })?;
-    let list = OperatorList::new(rules);
+    let list = OperatorList::new(rules)?;
     let by_list = |facts: RelayFacts| -> Ruling
         ensures { result ≡ ruling_for list facts.identity }
     { list.ruling(&facts) };

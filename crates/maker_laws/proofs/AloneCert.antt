@@ -1,22 +1,14 @@
 -- Items that are those of a certificate that stands alone are read as it.
-use Rattle.std.proofs.Common.{◌≡◌, ℕ, List, [], ◌∷◌, ◌++◌, length}
-use Rattle.std.proofs.Common.{None}
-use Rattle.std.proofs.Common.{Result, Ok, refl, sym, ap, subst, ◌∙◌, append-nil}
+use Rattle.std.proofs.Common.{◌≡◌, ℕ, List, [], ◌∷◌, ◌++◌, length, None, Result, Ok, refl, sym, ap, subst, ◌∙◌}
+use Rattle.std.proofs.Common.{append-nil}
 use Rattle.item_terms.specs.Items.{Contents, Item, items_of}
-use Rattle.frame_terms.specs.Documents.{Document, finish, group}
-use Rattle.frame_terms.specs.declared.document.Group.{Group}
+use Rattle.frame_terms.specs.{Documents.{Document, finish, group}, declared.document.Group.Group}
 use Rattle.frame_terms.specs.declared.fault.ReadRefusal.{ReadRefusal}
-use Rattle.authority_certs.specs.Certs.{cert_in}
-use Rattle.authority_certs.specs.Heads.{head_of, head_with, no_head}
-use Rattle.authority_certs.specs.Reading.{cert_of, max_cert, with_cert}
-use Rattle.authority_certs.specs.Tables.{cert_tables}
-use Rattle.document_laws.specs.Order.{Part}
-use Rattle.document_laws.specs.Documents.{IsDocument}
-use Rattle.document_laws.specs.Parts.{IsPart}
+use Rattle.authority_certs.specs.{Certs.cert_in, Heads.{head_of, head_with, no_head}, Reading.{cert_of, max_cert}}
+use Rattle.authority_certs.specs.{Reading.with_cert, Tables.cert_tables}
+use Rattle.document_laws.specs.{Order.Part, Documents.IsDocument, Parts.IsPart}
 use Rattle.vote_kinds.proofs.ClearVotes.{vote_kinds_are_exact}
-use Rattle.certificate_laws.specs.Within.{AreTakenIn}
-use Rattle.certificate_laws.proofs.Holding.{CertTaken, Said}
-use Rattle.certificate_laws.proofs.InVotes.{votes_hold}
+use Rattle.certificate_laws.{specs.Within.AreTakenIn, proofs.{Holding.{CertTaken, Said}, InVotes.votes_hold}}
 use Rattle.certificate_laws.proofs.Lone.{first_taken, lone_is}
 use Rattle.vote_frame.specs.Tables.{vote_tables}
 use Rattle.vote_frame.specs.declared.frame.VoteSection.TheVariants as vote

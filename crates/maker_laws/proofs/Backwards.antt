@@ -1,13 +1,10 @@
 -- Lines without a fault have none nearer to the first byte, under any limit that they do not pass, and make the same
 -- items.
-use Rattle.std.proofs.Common.{◌≡◌, ℕ, ◌+◌, ◌≤◌, List, [], ◌∷◌, Option, Some, None}
-use Rattle.std.proofs.Common.{Result, Ok, Err, refl, sym, ap, subst, ◌∙◌, arith}
-use Rattle.std.specs.Prelude.{map, option_map}
-use Rattle.item_terms.specs.declared.fault.DocFault.{DocFault}
-use Rattle.item_terms.specs.Lines.{Line, size}
-use Rattle.item_terms.specs.Steps.{Item, Open, Step, keyword_line, nothing, object_lines, step}
-use Rattle.grammar_laws.specs.Moved.{Reads, moved_item, moved_open, sizes, with_whole}
-use Rattle.grammar_laws.proofs.MovedLines.{step_moved}
+use Rattle.std.proofs.Common.{◌≡◌, ℕ, ◌+◌, ◌≤◌, List, [], ◌∷◌, Option, Some, None, Result, Ok, Err, refl, sym, ap}
+use Rattle.std.{proofs.Common.{subst, ◌∙◌, arith}, specs.Prelude.{map, option_map}}
+use Rattle.item_terms.specs.{declared.fault.DocFault.DocFault, Lines.{Line, size}, Steps.{Item, Open, Step}}
+use Rattle.item_terms.specs.Steps.{keyword_line, nothing, object_lines, step}
+use Rattle.grammar_laws.{specs.Moved.{Reads, moved_item, moved_open, sizes, with_whole}, proofs.MovedLines.step_moved}
 use Rattle.grammar_laws.proofs.SoundLines.{step_sound}
 use Rattle.maker_laws.proofs.SoundBack.{line_fits, IsOpened, opened, step_opened}
 

@@ -1,32 +1,22 @@
 -- The items of the certificate inside a station input are those of one that stands alone.
-use Rattle.std.proofs.Common.{◌≡◌, ℕ, ◌+◌, false, List, [], ◌∷◌, ◌++◌, Some}
-use Rattle.std.proofs.Common.{refl, sym, ap, subst, ◌∙◌, inl, inr, map}
+use Rattle.std.proofs.Common.{◌≡◌, ℕ, ◌+◌, false, List, [], ◌∷◌, ◌++◌, Some, refl, sym, ap, subst, ◌∙◌, inl, inr, map}
 use Rattle.std.specs.Prelude.{option_map}
 use Rattle.item_terms.specs.Items.{Item}
-use Rattle.frame_terms.specs.Documents.{group}
-use Rattle.frame_terms.specs.Keywords.{same}
-use Rattle.frame_terms.specs.Order.{is_keyword}
-use Rattle.frame_terms.specs.Sections.{row_of}
-use Rattle.frame_terms.specs.declared.keyword.Keyword.{Keyword}
+use Rattle.frame_terms.specs.{Documents.group, Keywords.same, Order.is_keyword, Sections.row_of}
+use Rattle.frame_terms.specs.{declared.keyword.Keyword.Keyword, Rows.row}
 use Rattle.frame_terms.specs.declared.keyword.Keyword.TheVariants as the
-use Rattle.frame_terms.specs.Rows.{row}
 use Rattle.authority_certs.specs.Tables.{cert_tables}
-use Rattle.document_laws.specs.Counts.{IsCount, RowsStand, times}
-use Rattle.document_laws.specs.Items.{IsItemOf}
-use Rattle.document_laws.proofs.Times.{once, times-first}
-use Rattle.document_laws.specs.Parts.{AreBetween, IsInside, IsPart}
+use Rattle.document_laws.specs.{Counts.{IsCount, RowsStand, times}, Items.IsItemOf, Parts.{AreBetween, IsInside}}
+use Rattle.document_laws.{specs.Parts.IsPart, proofs.Times.{once, times-first}}
 use Rattle.grammar_laws.specs.Moved.{moved_item}
-use Rattle.certificate_laws.specs.Lifted.{moved_taken}
-use Rattle.certificate_laws.proofs.Holding.{CertTaken, all_moved, row_there}
-use Rattle.station_input.specs.Tables.{station_tables}
-use Rattle.station_input.specs.declared.across.Across.{Across}
+use Rattle.certificate_laws.{specs.Lifted.moved_taken, proofs.Holding.{CertTaken, all_moved, row_there}}
+use Rattle.station_input.specs.{Tables.station_tables, declared.across.Across.Across}
+use Rattle.station_input.specs.declared.frame_said.StationValue.{StationValue}
 use Rattle.station_input.specs.declared.frame.StationKind.TheVariants as kind
 use Rattle.station_input.specs.declared.frame.StationSection.TheVariants as its
-use Rattle.station_input.specs.declared.frame_said.StationValue.{StationValue}
-use Rattle.station_laws.proofs.KeptLines.{only_certificate}
-use Rattle.station_laws.proofs.NamedOnce.{StationGroup, StationTaken}
-use Rattle.maker_laws.proofs.FrontCut.{first_or, items_behind}
-use Rattle.maker_laws.proofs.CertItems.{has, in_station, of_back, first_back, NoStrangers, no_stranger_of, passed_both}
+use Rattle.station_laws.proofs.KeptLines.{StationGroup, StationTaken, only_certificate}
+use Rattle.maker_laws.proofs.{FrontCut.{first_or, items_behind}, CertItems.{has, in_station, of_back, first_back}}
+use Rattle.maker_laws.proofs.CertItems.{NoStrangers, no_stranger_of, passed_both}
 
 -- ---- items between the first and the last
 

@@ -1,46 +1,29 @@
 -- An item of the certificate inside a station input is one of a certificate that stands alone.
-use Rattle.std.proofs.Common.{◌≡◌, ℕ, Bool, true, false, List, Option, Some, None, Result}
-use Rattle.std.proofs.Common.{Ok}
-use Rattle.std.proofs.Common.{refl, sym, ap, ◌∙◌, inl, inr}
-use Rattle.std.specs.Prelude.{IfSome, is_some, option_map, ◌||◌}
+use Rattle.std.proofs.Common.{◌≡◌, ℕ, Bool, true, false, List, Option, Some, None, Result, Ok, refl, sym, ap, ◌∙◌, inl}
+use Rattle.std.{proofs.{Common.inr, lemmas.Bool.false≢true}, specs.Prelude.{IfSome, is_some, option_map, ◌||◌}}
 use Rattle.std.specs.List.{AllByRecursion}
 use Rattle.item_terms.specs.Items.{Item}
-use Rattle.frame_terms.specs.Keywords.{same, word_of}
-use Rattle.frame_terms.specs.Order.{is_strange, knows, knows_in, knows_with}
-use Rattle.frame_terms.specs.Sections.{row_of, taken_of}
-use Rattle.frame_terms.specs.declared.keyword.Keyword.{Keyword}
+use Rattle.frame_terms.specs.{Keywords.{same, word_of}, Order.{is_strange, knows, knows_in, knows_with}}
+use Rattle.frame_terms.specs.{Sections.{row_of, taken_of}, declared.keyword.Keyword.Keyword}
+use Rattle.frame_terms.specs.{declared.row.{Count.TheVariants.One, Row.Row}, Rows.row}
 use Rattle.frame_terms.specs.declared.keyword.Keyword.TheVariants as the
-use Rattle.frame_terms.specs.declared.row.Count.TheVariants.{One}
-use Rattle.frame_terms.specs.declared.row.Row.{Row}
-use Rattle.frame_terms.specs.Rows.{row}
-use Rattle.frame_values.specs.Faults.{at_place}
-use Rattle.frame_values.specs.declared.values.Value.{Value}
-use Rattle.authority_certs.specs.Tables.{cert_tables, cert_value}
-use Rattle.authority_certs.specs.declared.frame.CertKind.{CertKind}
+use Rattle.frame_values.specs.{Faults.at_place, declared.values.Value.Value}
+use Rattle.authority_certs.specs.{Tables.{cert_tables, cert_value}, declared.frame.CertKind.CertKind}
 use Rattle.authority_certs.specs.declared.frame.CertKind.TheVariants as cert
-use Rattle.certificate_laws.proofs.CertRows.{HasCertificates}
-use Rattle.document_laws.specs.Items.{IsItemOf}
-use Rattle.document_laws.specs.Passing.{IsPassedIn}
-use Rattle.document_laws.proofs.Openers.{row_of-one, row_of-same}
+use Rattle.certificate_laws.proofs.{CertRows.HasCertificates, Holding.{CertTaken, Said, alone_rows, row_inside}}
+use Rattle.certificate_laws.proofs.{Holding.row_there, CertMakes.object_there, MovedValues.said_back}
+use Rattle.certificate_laws.{proofs.Simulated.taken_of_moved, specs.{Given.IsNoStranger, Lifted.moved_taken}}
+use Rattle.document_laws.{specs.{Items.IsItemOf, Passing.IsPassedIn}, proofs.Openers.{row_of-one, row_of-same}}
 use Rattle.frame_laws.proofs.KnownWords.{same-through}
-use Rattle.std.proofs.lemmas.Bool.{false≢true}
 use Rattle.grammar_laws.specs.Moved.{moved_item}
-use Rattle.certificate_laws.specs.Given.{IsNoStranger}
-use Rattle.certificate_laws.specs.Lifted.{moved_taken}
-use Rattle.certificate_laws.proofs.Holding.{CertTaken, Said, alone_rows, row_inside, row_there}
-use Rattle.certificate_laws.proofs.CertMakes.{object_there}
-use Rattle.certificate_laws.proofs.MovedValues.{said_back}
-use Rattle.certificate_laws.proofs.Simulated.{taken_of_moved}
 use Rattle.row_laws.proofs.ReadSteps.{placed}
 use Rattle.vote_frame.specs.Tables.{vote_tables}
 use Rattle.vote_frame.specs.declared.frame.VoteSection.TheVariants as vote
-use Rattle.station_input.specs.Tables.{station_tables}
-use Rattle.station_input.specs.declared.across.Across.{Across}
-use Rattle.station_input.specs.declared.frame.StationKind.{StationKind}
+use Rattle.station_input.specs.{Tables.station_tables, declared.{across.Across.Across, frame.StationKind.StationKind}}
+use Rattle.station_input.specs.declared.frame_said.StationValue.{StationValue}
 use Rattle.station_input.specs.declared.frame.StationKind.TheVariants as kind
 use Rattle.station_input.specs.declared.frame.StationSection.TheVariants as its
-use Rattle.station_input.specs.declared.frame_said.StationValue.{StationValue}
-use Rattle.station_laws.proofs.NamedOnce.{StationTaken}
+use Rattle.station_laws.proofs.KeptLines.{StationTaken}
 
 -- ---- rows
 

@@ -1,40 +1,26 @@
 -- Where the certificate stands in a station input, and that alone it is read as it stands there.
-use Rattle.std.proofs.Common.{◌≡◌, ℕ, ◌+◌, ◌≤◌, Bool, true, false, List, [], ◌∷◌, ◌++◌, length, map}
-use Rattle.std.proofs.Common.{Some, None}
-use Rattle.std.proofs.Common.{refl, sym, ap, subst, ◌∙◌, arith, append_assoc}
-use Rattle.std.specs.Prelude.{is_some, if◌then◌else◌}
+use Rattle.std.proofs.Common.{◌≡◌, ℕ, ◌+◌, ◌≤◌, Bool, true, false, List, [], ◌∷◌, ◌++◌, length, map, Some, None, refl}
+use Rattle.std.{proofs.Common.{sym, ap, subst, ◌∙◌, arith, append_assoc}, specs.Prelude.{is_some, if◌then◌else◌}}
 use Rattle.std.specs.List.{AllByRecursion}
-use Rattle.item_terms.specs.Items.{Contents, Item, contents_of, items_of, nothing}
-use Rattle.item_terms.specs.Lines.{Line, lines}
+use Rattle.item_terms.specs.{Items.{Contents, Item, contents_of, items_of, nothing}, Lines.{Line, lines}}
 use Rattle.item_terms.specs.Words.{first_is, is_letter_or_digit}
-use Rattle.frame_terms.specs.Documents.{group}
-use Rattle.frame_terms.specs.Keywords.{same}
+use Rattle.frame_terms.specs.{Documents.group, Keywords.same}
 use Rattle.frame_terms.specs.declared.row.Limit.TheVariants as limit
 use Rattle.frame_terms.specs.declared.keyword.Keyword.TheVariants as the
 use Rattle.frame_values.specs.Values.{item_at, place_in}
-use Rattle.authority_certs.specs.Heads.{head_of}
-use Rattle.authority_certs.specs.Reading.{max_cert}
-use Rattle.authority_certs.specs.Tables.{cert_tables}
+use Rattle.authority_certs.specs.{Heads.head_of, Reading.max_cert, Tables.cert_tables}
 use Rattle.frame_laws.proofs.KnownWords.{same-sym}
 use Rattle.document_laws.specs.Parts.{EndsWithin, IsInside, IsPart}
-use Rattle.grammar_laws.specs.Moved.{Reads, moved_item, sizes}
-use Rattle.grammar_laws.proofs.LastLines.{cut_lines, sizes_both}
-use Rattle.grammar_laws.proofs.LinesTogether.{AllEnded}
-use Rattle.grammar_laws.proofs.FirstPlace.{first_at}
-use Rattle.grammar_laws.proofs.OwnLines.{hold}
-use Rattle.grammar_laws.proofs.SoundLines.{ends_all, within_all}
+use Rattle.grammar_laws.{specs.Moved.{Reads, moved_item, sizes}, proofs.LastLines.{cut_lines, sizes_both}}
+use Rattle.grammar_laws.proofs.{LinesTogether.AllEnded, FirstPlace.first_at, OwnLines.hold, SoundLines.ends_all}
+use Rattle.grammar_laws.proofs.SoundLines.{within_all}
 use Rattle.certificate_laws.proofs.Holding.{CertTaken, all_moved}
-use Rattle.station_input.specs.Tables.{station_tables}
-use Rattle.station_input.specs.declared.across.Across.{Across}
+use Rattle.station_input.specs.{Tables.station_tables, declared.across.Across.Across, Reading.max_station}
 use Rattle.station_input.specs.declared.frame.StationSection.TheVariants as its
-use Rattle.station_input.specs.Reading.{max_station}
-use Rattle.maker_laws.proofs.Backwards.{reads_back}
-use Rattle.station_laws.proofs.NamedOnce.{StationTaken}
-use Rattle.maker_laws.proofs.CertItems.{NoStrangers, has_object}
-use Rattle.maker_laws.proofs.CertInside.{WasInside, inside_back}
-use Rattle.maker_laws.proofs.CutText.{begins_with_keyword, cut_text}
-use Rattle.maker_laws.proofs.FrontCut.{cut_front, first_or, items_behind}
-use Rattle.maker_laws.proofs.AloneCert.{IsAlone, alone_is, alone_part}
+use Rattle.maker_laws.proofs.{Backwards.reads_back, CertItems.{NoStrangers, has_object}, CertInside.WasInside}
+use Rattle.maker_laws.proofs.{CertInside.inside_back, CutText.{begins_with_keyword, cut_text}, FrontCut.cut_front}
+use Rattle.maker_laws.proofs.{FrontCut.{first_or, items_behind}, AloneCert.{IsAlone, alone_is, alone_part}}
+use Rattle.station_laws.proofs.KeptLines.{StationTaken}
 
 -- ---- where it stands in the input
 

@@ -1,14 +1,9 @@
 -- A text is cut where its lines are.
-use Rattle.std.proofs.Common.{◌≡◌, ℕ, true, false, List, [], ◌∷◌, ◌++◌, length, take, drop, sym, ap}
-use Rattle.std.proofs.Common.{subst, ◌∙◌}
-use Rattle.std.proofs.lemmas.List.{take-append-drop}
-use Rattle.std.proofs.Common.{append_assoc}
-use Rattle.std.proofs.lemmas.Bool.{and_parts, false≢true}
+use Rattle.std.proofs.Common.{◌≡◌, ℕ, true, false, List, [], ◌∷◌, ◌++◌, length, take, drop, sym, ap, subst, ◌∙◌}
+use Rattle.std.proofs.{Common.append_assoc, lemmas.{List.take-append-drop, Bool.{and_parts, false≢true}}}
 use Rattle.std.specs.Prelude.{Bool, ◌==◌, if◌then◌else◌}
-use Rattle.item_terms.specs.Lines.{Line, lines, onto}
-use Rattle.item_terms.specs.Words.{first_is, is_keyword_line, is_letter_or_digit}
-use Rattle.grammar_laws.specs.Moved.{sizes}
-use Rattle.grammar_laws.proofs.LinesTogether.{AllEnded, lines_both, sizes_all}
+use Rattle.item_terms.specs.{Lines.{Line, lines, onto}, Words.{first_is, is_keyword_line, is_letter_or_digit}}
+use Rattle.grammar_laws.{specs.Moved.sizes, proofs.LinesTogether.{AllEnded, lines_both, sizes_all}}
 use Rattle.grammar_laws.proofs.OwnLines.{lines_cut}
 
 ended_front : (front back : List Line) → AllEnded (front ++ back) → AllEnded front

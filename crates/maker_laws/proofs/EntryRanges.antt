@@ -1,21 +1,14 @@
 -- The entry of a relay whose descriptor is in range, of which what is known is, is in range.
-use Rattle.std.proofs.Common.{◌≡◌, ℕ, ◌≤◌, Bool, true, false, List, [], ◌∷◌, ◌++◌, map, filter}
-use Rattle.std.proofs.Common.{Option, Some, None, refl, arith}
-use Rattle.std.specs.Prelude.{All, IfSome, codes, decimal, min, option_and_then, option_map, take, unwrap_or}
-use Rattle.std.specs.Prelude.{◌==◌, ◌/◌, if◌then◌else◌}
-use Rattle.std.specs.List.{find}
+use Rattle.std.proofs.Common.{◌≡◌, ℕ, ◌≤◌, Bool, true, false, List, [], ◌∷◌, ◌++◌, map, filter, Option, Some, None}
+use Rattle.std.proofs.{Common.{refl, arith}, lemmas.{Bool.{and_from, false≢true}, List.Elements.{All-cons, All-filter}}}
+use Rattle.std.proofs.lemmas.List.Elements.{All-head, All-map, All-nil, All-tail, All-weaker}
+use Rattle.std.{proofs.lemmas.List.Sums.AllPass-from_list_all, specs.Prelude.{All, IfSome, codes, decimal, min}}
+use Rattle.std.specs.{Prelude.{option_and_then, option_map, take, unwrap_or, ◌==◌, ◌/◌, if◌then◌else◌}, List.find}
 use Rattle.std.specs.Str.{bytes_eq}
-use Rattle.std.proofs.lemmas.Bool.{and_from, false≢true}
-use Rattle.std.proofs.lemmas.List.Elements.{All-cons, All-filter, All-head, All-map, All-nil, All-tail, All-weaker}
-use Rattle.std.proofs.lemmas.List.Sums.{AllPass-from_list_all}
 use Rattle.count_terms.specs.declared.newest.Newest.{Newest}
-use Rattle.item_terms.specs.Bytes.{comma, hyphen, space}
-use Rattle.item_terms.specs.Words.{words_of}
-use Rattle.dir_values.specs.Digests.{identity_below}
-use Rattle.dir_values.specs.FlagSets.{is_name}
-use Rattle.dir_values.specs.Ports.{entries_text, range_text, word_text}
-use Rattle.dir_values.specs.declared.digest.Fingerprint.{Fingerprint}
-use Rattle.dir_values.specs.declared.port_range.PortRange.{PortRange}
+use Rattle.item_terms.specs.{Bytes.{comma, hyphen, space}, Words.words_of}
+use Rattle.dir_values.specs.{Digests.identity_below, FlagSets.is_name, Ports.{entries_text, range_text, word_text}}
+use Rattle.dir_values.specs.declared.{digest.Fingerprint.Fingerprint, port_range.PortRange.PortRange}
 use Rattle.dir_values.proofs.Flags.{Ascend-as_set}
 use Rattle.dirdoc_grammar.specs.Writing.{IsLineRest}
 use Rattle.grammar_laws.proofs.LineRests.{rest_of_argument}
@@ -26,26 +19,17 @@ use Rattle.descriptor_frame.specs.declared.certificate.EdCert.{EdCert}
 use Rattle.group_laws.specs.Ranges.{AreThirtyTwo, IsAddressInRange, IsOpinionInRange}
 use Rattle.descriptor_doc.specs.declared.descriptor.Descriptor.{Descriptor}
 use Rattle.descriptor_laws.specs.ReadRanges.{IsDescriptorInRange, IsShortAddress, IsShortRest}
-use Rattle.flag_rules.specs.Names.{name_table, names_of}
-use Rattle.flag_rules.specs.Relays.{ruled_relays}
-use Rattle.flag_rules.specs.declared.flags.Flags.{Flags}
-use Rattle.flag_rules.specs.declared.relay.RelayFacts.{RelayFacts}
-use Rattle.flag_rules.specs.declared.ruling.Ruling.{Ruling}
+use Rattle.flag_rules.specs.{Names.{name_table, names_of}, Relays.ruled_relays, declared.flags.Flags.Flags}
+use Rattle.flag_rules.specs.declared.{relay.RelayFacts.RelayFacts, ruling.Ruling.Ruling}
 use Rattle.station_input.specs.declared.frame_said.MeasuredRelay.{MeasuredRelay}
-use Rattle.maker_laws.specs.Ranges.{IsMeasuredInRange}
+use Rattle.maker_laws.{specs.Ranges.IsMeasuredInRange, proofs.{MicroLines.{IsFine, relay_micros}, RestWords.rest_words}}
 use Rattle.vote_pool.specs.Summaries.{family_digest_of, micro_digest_of}
-use Rattle.vote_laws.specs.Again.{AreEntryFlags, IsEntryInRange, IsMicroInRange}
+use Rattle.vote_laws.{specs.Again.{AreEntryFlags, IsEntryInRange, IsMicroInRange}, proofs.FlagSets.All-as_set}
 use Rattle.vote_terms.specs.declared.entry.MicroFacts.{MicroFacts}
-use Rattle.vote_maker.specs.Entries.{micros_of, opinion_of, version_of_platform}
-use Rattle.vote_maker.specs.Entries.{version_of_words}
-use Rattle.vote_maker.specs.Listings.{JudgedRelay, entry_of_judged, judged_relays}
-use Rattle.vote_maker.specs.Relays.{is_of, known_of, known_relays, most_kilobytes}
-use Rattle.vote_maker.specs.Relays.{unmeasured_relay}
-use Rattle.range_laws.proofs.EntryTexts.{HasRests}
-use Rattle.vote_laws.proofs.FlagSets.{All-as_set}
-use Rattle.range_laws.proofs.ReadNames.{IsName}
-use Rattle.maker_laws.proofs.MicroLines.{IsFine, relay_micros}
-use Rattle.maker_laws.proofs.RestWords.{rest_words}
+use Rattle.vote_maker.specs.Entries.{micros_of, opinion_of, version_of_platform, version_of_words}
+use Rattle.vote_maker.specs.{Listings.{JudgedRelay, entry_of_judged, judged_relays}, Relays.{is_of, known_of}}
+use Rattle.vote_maker.specs.Relays.{known_relays, most_kilobytes, unmeasured_relay}
+use Rattle.range_laws.proofs.{EntryTexts.HasRests, ReadNames.IsName}
 
 -- ---- what is known of relays
 

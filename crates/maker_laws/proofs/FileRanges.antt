@@ -1,21 +1,12 @@
 -- Each bandwidth of a bandwidth file has 32 bits.
-use Rattle.std.proofs.Common.{◌≡◌, ℕ, Bool, true, false, cond, List, [], ◌∷◌, reverse, Option, Some}
-use Rattle.std.proofs.Common.{refl, sym, ap, subst}
-use Rattle.std.specs.Prelude.{All, IfSome}
-use Rattle.std.specs.List.{find}
-use Rattle.std.specs.Map.{keys_of}
+use Rattle.std.proofs.Common.{◌≡◌, ℕ, Bool, true, false, cond, List, [], ◌∷◌, reverse, Option, Some, refl, sym, ap}
+use Rattle.std.proofs.{Common.subst, lemmas.List.{reverse-append, Elements.{All-append, All-cons, All-head, All-nil}}}
+use Rattle.std.proofs.lemmas.{List.Elements.All-tail, Map.{Keys.sorted_tail, Views.All-after_first}}
+use Rattle.std.{proofs.lemmas.Slice.Eq.bytes_eq-Decides, specs.{Prelude.{All, IfSome}, List.find, Map.keys_of}}
 use Rattle.std.specs.Option.{option_map}
-use Rattle.std.proofs.lemmas.List.{reverse-append}
-use Rattle.std.proofs.lemmas.List.Elements.{All-append, All-cons, All-head, All-nil, All-tail}
-use Rattle.std.proofs.lemmas.Map.Keys.{sorted_tail}
-use Rattle.std.proofs.lemmas.Map.Views.{All-after_first}
-use Rattle.std.proofs.lemmas.Slice.Eq.{bytes_eq-Decides}
 use Rattle.item_terms.specs.Lines.{lines}
-use Rattle.dir_values.specs.Digests.{same_identity}
-use Rattle.dir_values.specs.declared.digest.Fingerprint.{Fingerprint}
-use Rattle.bandwidth_file.specs.declared.file.BandFile.{BandFile}
-use Rattle.bandwidth_file.specs.declared.said.Row.{Row}
-use Rattle.bandwidth_file.specs.Files.{IsBandFile, rows_of}
+use Rattle.dir_values.specs.{Digests.same_identity, declared.digest.Fingerprint.Fingerprint}
+use Rattle.bandwidth_file.specs.{declared.{file.BandFile.BandFile, said.Row.Row}, Files.{IsBandFile, rows_of}}
 use Rattle.bandwidth_file.specs.Relays.{Ascend, bandwidth_in, identity_order, last_bandwidth}
 use Rattle.bandwidth_laws.proofs.LastRows.{none_later}
 use Rattle.maker_laws.proofs.RowRanges.{IsKb, IsRow, rows_are}

@@ -1,9 +1,7 @@
 -- What was measured, with a file's bandwidths, is told by that file.
 use Rattle.std.proofs.Common.{sym, subst}
-use Rattle.station_commands.specs.MeasuredTold.{AreToldBy}
-use Rattle.station_commands.proofs.Telling.{all_tell}
-use Rattle.maker_laws.specs.Votes.{ToldEntriesAreTold, ToldRelaysAreTold}
-use Rattle.maker_laws.proofs.Telling.{entries_told}
+use Rattle.station_commands.{specs.MeasuredTold.AreToldBy, proofs.Telling.all_tell}
+use Rattle.maker_laws.{specs.Votes.{ToldEntriesAreTold, ToldRelaysAreTold}, proofs.Telling.entries_told}
 
 pub relays_told : ToldRelaysAreTold
 relays_told file before = all_tell file before

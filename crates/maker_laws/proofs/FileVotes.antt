@@ -1,13 +1,9 @@
 -- A vote that is made with a bandwidth file is read as what it was made to say.
-use Rattle.std.proofs.Common.{◌∙◌, List, sym, ap, subst}
-use Rattle.std.specs.Prelude.{All}
+use Rattle.std.{proofs.Common.{◌∙◌, List, sym, ap, subst}, specs.Prelude.All}
 use Rattle.descriptor_laws.specs.ReadRanges.{DescriptorsReadAreInRange}
-use Rattle.station_input.specs.declared.frame_said.MeasuredRelay.{MeasuredRelay}
-use Rattle.station_input.specs.declared.facts.StationFacts.{StationFacts}
-use Rattle.maker_laws.specs.Ranges.{IsMeasuredInRange}
-use Rattle.maker_laws.proofs.MadeRead.{read_as_made}
-use Rattle.maker_laws.specs.FileVotes.{FileVotesReadAsMade, ToldStationsAreStations}
-use Rattle.maker_laws.proofs.ToldRanges.{told_are}
+use Rattle.station_input.specs.declared.{frame_said.MeasuredRelay.MeasuredRelay, facts.StationFacts.StationFacts}
+use Rattle.maker_laws.specs.{Ranges.IsMeasuredInRange, FileVotes.{FileVotesReadAsMade, ToldStationsAreStations}}
+use Rattle.maker_laws.proofs.{MadeRead.read_as_made, ToldRanges.told_are}
 
 pub told_stations : ToldStationsAreStations
 told_stations station is = record {

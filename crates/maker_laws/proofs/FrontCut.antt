@@ -1,19 +1,12 @@
 -- Lines are cut in front of an item.
 use Rattle.std.proofs.Common.{◌≡◌, ◌⊎◌, ℕ, ◌+◌, Bool, true, false, List, [], ◌∷◌, ◌++◌, Option, Some, None, inl, inr}
-use Rattle.std.proofs.Common.{Ok, Err, refl, sym, ap, subst, ◌∙◌, arith}
-use Rattle.std.specs.Prelude.{if◌then◌else◌}
-use Rattle.item_terms.specs.declared.fault.DocFault.{DocFault}
-use Rattle.item_terms.specs.declared.fault.DocReason.TheVariants.{Keyword}
-use Rattle.item_terms.specs.Base64Text.{is_body}
-use Rattle.item_terms.specs.Faults.{at, line_fault, object_line_fault}
-use Rattle.item_terms.specs.Lines.{Line, size}
-use Rattle.item_terms.specs.Words.{begin_words, is_blank_line, is_end_line, is_keyword_line}
-use Rattle.item_terms.specs.Steps.{Item, Open, Step, first_object_line, item_unless}
-use Rattle.item_terms.specs.Steps.{keyword_item}
-use Rattle.item_terms.specs.Steps.{keyword_line, nothing, object_lines, object_step, open_item, open_unless}
-use Rattle.item_terms.specs.Steps.{read_line, starts_dash, step, step_unless}
-use Rattle.grammar_laws.specs.Moved.{Reads, sizes, with_whole}
-use Rattle.grammar_laws.proofs.MovedLines.{after_line, object_made}
+use Rattle.std.{proofs.Common.{Ok, Err, refl, sym, ap, subst, ◌∙◌, arith}, specs.Prelude.if◌then◌else◌}
+use Rattle.item_terms.specs.{declared.fault.{DocFault.DocFault, DocReason.TheVariants.Keyword}, Base64Text.is_body}
+use Rattle.item_terms.specs.{Faults.{at, line_fault, object_line_fault}, Lines.{Line, size}, Words.begin_words}
+use Rattle.item_terms.specs.{Words.{is_blank_line, is_end_line, is_keyword_line}, Steps.{Item, Open, Step}}
+use Rattle.item_terms.specs.Steps.{first_object_line, item_unless, keyword_item, keyword_line, nothing, object_lines}
+use Rattle.item_terms.specs.Steps.{object_step, open_item, open_unless, read_line, starts_dash, step, step_unless}
+use Rattle.grammar_laws.{specs.Moved.{Reads, sizes, with_whole}, proofs.MovedLines.{after_line, object_made}}
 use Rattle.maker_laws.proofs.Backwards.{open_or}
 
 -- ---- what a line between items opens

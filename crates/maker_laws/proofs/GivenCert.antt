@@ -1,53 +1,34 @@
 -- The certificate inside a station input may stand in a vote.
-use Rattle.std.proofs.Common.{◌≡◌, ℕ, ◌+◌, ◌-◌, Bool, true, false, List, [], ◌∷◌, ◌++◌, length, map}
-use Rattle.std.proofs.Common.{Some, None}
-use Rattle.std.proofs.Common.{Result, Ok, Err, refl, sym, ap, subst, ◌∙◌, arith, append_assoc, append-nil, inl, inr}
-use Rattle.std.specs.Prelude.{replicate, slice_range}
-use Rattle.std.specs.List.{fold}
-use Rattle.std.proofs.lemmas.List.{take_all}
+use Rattle.std.proofs.Common.{◌≡◌, ℕ, ◌+◌, ◌-◌, Bool, true, false, List, [], ◌∷◌, ◌++◌, length, map, Some, None, Result}
+use Rattle.std.proofs.Common.{Ok, Err, refl, sym, ap, subst, ◌∙◌, arith, append_assoc, append-nil, inl, inr}
+use Rattle.std.{proofs.lemmas.List.take_all, specs.{Prelude.{replicate, slice_range}, List.fold}}
 use Rattle.item_terms.specs.Items.{Item, items_of}
 use Rattle.count_terms.specs.declared.newest.Newest.{Newest}
-use Rattle.frame_terms.specs.Documents.{Document, document_of, finish, group}
-use Rattle.frame_terms.specs.Keywords.{same}
-use Rattle.frame_terms.specs.Order.{inner, opener}
-use Rattle.frame_terms.specs.Rows.{row}
-use Rattle.frame_terms.specs.declared.fault.ReadRefusal.{ReadRefusal}
-use Rattle.frame_terms.specs.declared.keyword.Keyword.{Keyword}
-use Rattle.frame_terms.specs.declared.keyword.Keyword.TheVariants as the
+use Rattle.frame_terms.specs.{Documents.{Document, document_of, finish, group}, Keywords.same, Order.{inner, opener}}
+use Rattle.frame_terms.specs.{Rows.row, declared.{fault.ReadRefusal.ReadRefusal, keyword.Keyword.Keyword}}
 use Rattle.frame_terms.specs.declared.row.Count.TheVariants.{One}
+use Rattle.frame_terms.specs.declared.keyword.Keyword.TheVariants as the
 use Rattle.frame_values.specs.declared.values.Value.{Value}
-use Rattle.authority_certs.specs.Certs.{cert_in, whole_part}
-use Rattle.authority_certs.specs.Heads.{head_of}
-use Rattle.authority_certs.specs.declared.head.CertHead.{CertHead}
+use Rattle.authority_certs.specs.{Certs.{cert_in, whole_part}, Heads.head_of, declared.head.CertHead.CertHead}
 use Rattle.authority_certs.specs.declared.cert.Cert.{Cert}
 use Rattle.authority_certs.specs.declared.frame.CertKind.TheVariants as cert
-use Rattle.document_laws.specs.Counts.{RowsStand, times}
+use Rattle.document_laws.specs.{Counts.{RowsStand, times}, Order.{Part, sections_of}, Documents.AreParts}
+use Rattle.document_laws.{specs.Parts.{AreBetween, AreOthers, HasLast, IsInside, IsPart}, proofs.Times.once}
+use Rattle.document_laws.proofs.Times.{times-append, times-first}
 use Rattle.document_laws.specs.Order as order
-use Rattle.document_laws.specs.Order.{Part, sections_of}
-use Rattle.document_laws.proofs.Times.{once, times-append, times-first}
 use Rattle.frame_laws.proofs.KnownWords.{same-sym, same-through}
-use Rattle.document_laws.specs.Documents.{AreParts}
-use Rattle.document_laws.specs.Parts.{AreBetween, AreOthers, HasLast, IsInside, IsPart}
-use Rattle.certificate_laws.specs.Given.{IsGiven}
-use Rattle.certificate_laws.proofs.Holding.{all_moved}
-use Rattle.certificate_laws.proofs.MovedParts.{certs_say}
+use Rattle.certificate_laws.{specs.Given.IsGiven, proofs.{Holding.all_moved, MovedParts.certs_say}}
 use Rattle.vote_frame.specs.Tables.{vote_tables}
 use Rattle.vote_frame.specs.declared.frame.VoteSection.TheVariants as vote
-use Rattle.station_input.specs.Tables.{station_tables}
-use Rattle.station_input.specs.declared.across.Across.{Across}
-use Rattle.station_input.specs.declared.frame.StationKind.TheVariants as kind
-use Rattle.station_input.specs.declared.frame.StationSection.{StationSection}
-use Rattle.station_input.specs.declared.frame.StationSection.TheVariants as its
-use Rattle.station_input.specs.declared.frame_said.StationValue.{StationValue}
-use Rattle.station_input.specs.Facts.{facts_of}
-use Rattle.station_input.specs.Kept.{kept_with, none_kept}
+use Rattle.station_input.specs.{Tables.station_tables, declared.across.Across.Across}
+use Rattle.station_input.specs.declared.{frame.StationSection.StationSection, frame_said.StationValue.StationValue}
+use Rattle.station_input.specs.{declared.facts.StationFacts.StationFacts, Facts.facts_of, Kept.{kept_with, none_kept}}
 use Rattle.station_input.specs.Reading.{max_station, with_facts}
-use Rattle.station_input.specs.declared.facts.StationFacts.{StationFacts}
-use Rattle.station_laws.proofs.StationTables.{stations_are_exact}
-use Rattle.maker_laws.specs.CertsGiven.{StationsCertificatesAreGiven}
+use Rattle.station_input.specs.declared.frame.StationKind.TheVariants as kind
+use Rattle.station_input.specs.declared.frame.StationSection.TheVariants as its
+use Rattle.station_laws.proofs.{StationTables.stations_are_exact, KeptLines.{StationGroup, StationTaken}}
 use Rattle.station_laws.proofs.KeptLines.{certificate_if, only_certificate, same_facts}
-use Rattle.station_laws.proofs.NamedOnce.{StationGroup, StationTaken}
-use Rattle.maker_laws.proofs.CertPlace.{HasCert, cut_inside}
+use Rattle.maker_laws.{specs.CertsGiven.StationsCertificatesAreGiven, proofs.CertPlace.{HasCert, cut_inside}}
 
 -- ---- the input
 

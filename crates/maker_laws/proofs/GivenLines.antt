@@ -1,46 +1,30 @@
 -- The lines of a vote that say what was read of a station input are no longer than a line may be.
-use Rattle.std.proofs.Common.{◌≡◌, ℕ, List, [], ◌∷◌, ◌++◌, length, Option}
-use Rattle.std.proofs.Common.{Result, Ok, Err, refl, sym, ap, subst, ◌∙◌, inl, inr}
-use Rattle.std.specs.Prelude.{All, codes, decimal, option_map}
-use Rattle.std.proofs.lemmas.List.Elements.{All-head, All-tail}
-use Rattle.item_terms.specs.Bytes.{space}
-use Rattle.item_terms.specs.Items.{Item, items_of}
+use Rattle.std.proofs.Common.{◌≡◌, ℕ, List, [], ◌∷◌, ◌++◌, length, Option, Result, Ok, Err, refl, sym, ap, subst, ◌∙◌}
+use Rattle.std.{proofs.{Common.{inl, inr}, lemmas.List.Elements.{All-head, All-tail}}, specs.Prelude.{All, codes}}
+use Rattle.std.specs.Prelude.{decimal, option_map}
+use Rattle.item_terms.specs.{Bytes.space, Items.{Item, items_of}}
 use Rattle.dir_bytes.specs.FieldTexts.{address_text, hex_text}
 use Rattle.dir_values.specs.declared.digest.Fingerprint.{Fingerprint}
 use Rattle.count_terms.specs.declared.newest.Newest.{Newest}
-use Rattle.frame_terms.specs.Documents.{Document, document_of, finish, group}
-use Rattle.frame_terms.specs.declared.fault.ReadRefusal.{ReadRefusal}
+use Rattle.frame_terms.specs.{Documents.{Document, document_of, finish, group}, declared.fault.ReadRefusal.ReadRefusal}
 use Rattle.frame_terms.specs.declared.keyword.Keyword.TheVariants as the
-use Rattle.frame_values.specs.Items.{bare, item_if}
-use Rattle.frame_values.specs.Parts.{part}
-use Rattle.frame_values.specs.Values.{item_at, text_if}
-use Rattle.frame_values.specs.declared.found.DirSource.{DirSource}
-use Rattle.frame_values.specs.declared.values.Value.{Value}
-use Rattle.document_laws.specs.Counts.{RowsStand}
-use Rattle.document_laws.specs.Items.{AreItemsIn}
-use Rattle.document_laws.proofs.Counting.{stand_as_often}
-use Rattle.document_laws.proofs.Taking.{are_said}
+use Rattle.frame_values.specs.{Items.{bare, item_if}, Parts.part, Values.{item_at, text_if}}
+use Rattle.frame_values.specs.declared.{found.DirSource.DirSource, values.Value.Value}
+use Rattle.document_laws.{specs.{Counts.RowsStand, Items.AreItemsIn}, proofs.{Counting.stand_as_often, Taking.are_said}}
 use Rattle.row_laws.proofs.Saying.{EachSound, all_sound}
-use Rattle.station_input.specs.Tables.{station_tables}
-use Rattle.station_input.specs.declared.frame.StationSection.{StationSection}
+use Rattle.station_input.specs.{Tables.station_tables, declared.frame.StationSection.StationSection}
+use Rattle.station_input.specs.declared.{frame_said.StationValue.StationValue, facts.StationFacts.StationFacts}
+use Rattle.station_input.specs.{Kept.{kept_with, none_kept}, Reading.{max_station, with_facts}, Saying.source_in}
 use Rattle.station_input.specs.declared.frame.StationSection.TheVariants as its
-use Rattle.station_input.specs.declared.frame_said.StationValue.{StationValue}
 use Rattle.station_input.specs.declared.frame_said.StationValue.TheVariants as own
-use Rattle.station_input.specs.Kept.{kept_with, none_kept}
-use Rattle.vote_terms.specs.ListLines.{lists_in, vote_lists}
-use Rattle.station_input.specs.Reading.{max_station, with_facts}
-use Rattle.station_input.specs.Saying.{source_in}
-use Rattle.station_input.specs.declared.facts.StationFacts.{StationFacts}
-use Rattle.station_laws.proofs.KeptLines.{AreSections, facts_in, groups_are, same_facts, sections_are}
-use Rattle.station_laws.proofs.NamedOnce.{StationGroup, StationTaken}
-use Rattle.maker_laws.proofs.StationKept.{AreFrom, CountsOf}
-use Rattle.vote_terms.specs.declared.facts.VoteFacts.{VoteFacts}
+use Rattle.vote_terms.specs.{ListLines.{lists_in, vote_lists}, declared.facts.VoteFacts.VoteFacts}
+use Rattle.station_laws.proofs.KeptLines.{AreSections, StationGroup, StationTaken, facts_in, groups_are, same_facts}
+use Rattle.station_laws.proofs.KeptLines.{sections_are}
+use Rattle.maker_laws.proofs.{StationKept.{AreFrom, CountsOf}, ItemLines.{EachShort, FitsLine, each_short}}
+use Rattle.maker_laws.proofs.{OwnLine.IsShortSource, StandingLines.each_stands_short, GivenLists.HasShortLists}
+use Rattle.maker_laws.{proofs.GivenLists.{lists_short, contact_short, source_short}, specs.Lines.GivenLinesAreShort}
+use Rattle.maker_laws.specs.Lines.{HasShortLine, SaysAsGiven}
 use Rattle.vote_text.specs.Texts.{source_text}
-use Rattle.maker_laws.specs.Lines.{GivenLinesAreShort, HasShortLine, SaysAsGiven}
-use Rattle.maker_laws.proofs.ItemLines.{EachShort, FitsLine, each_short}
-use Rattle.maker_laws.proofs.OwnLine.{IsShortSource}
-use Rattle.maker_laws.proofs.StandingLines.{each_stands_short}
-use Rattle.maker_laws.proofs.GivenLists.{HasShortLists, lists_short, contact_short, source_short}
 
 -- ---- all that is read
 

@@ -1,43 +1,32 @@
 -- The lines of lists that a station is given, and of who the authority is, are short.
 use Rattle.std.proofs.Common.{◌≡◌, ℕ, ◌≤◌, true, List, [], ◌++◌, length, Option, Some, None, refl}
-use Rattle.std.specs.Prelude.{All, IfSome, is_some, option_map}
-use Rattle.std.proofs.lemmas.List.Elements.{All-append, All-cons, All-nil}
+use Rattle.std.{proofs.lemmas.List.Elements.{All-append, All-cons, All-nil}, specs.Prelude.{All, IfSome, is_some}}
+use Rattle.std.specs.Prelude.{option_map}
 use Rattle.dirdoc_grammar.specs.Writing.{NewItem}
-use Rattle.frame_terms.specs.Keywords.{same, text_of}
-use Rattle.frame_terms.specs.Rows.{row}
-use Rattle.frame_terms.specs.declared.keyword.Keyword.{Keyword}
-use Rattle.frame_terms.specs.declared.keyword.Keyword.TheVariants as the
+use Rattle.frame_terms.specs.{Keywords.{same, text_of}, Rows.row, declared.keyword.Keyword.Keyword}
 use Rattle.frame_terms.specs.declared.row.Count.TheVariants.{One, Optional}
-use Rattle.frame_values.specs.Items.{bare, item_if}
-use Rattle.frame_values.specs.Parts.{part}
-use Rattle.frame_values.specs.Values.{item_at, own_of_value, text_if}
+use Rattle.frame_terms.specs.declared.keyword.Keyword.TheVariants as the
+use Rattle.frame_values.specs.{Items.{bare, item_if}, Parts.part, Values.{item_at, own_of_value, text_if}}
 use Rattle.frame_values.specs.declared.values.Value.{Value}
 use Rattle.frame_values.specs.declared.values.Value.TheVariants as value
-use Rattle.value_laws.proofs.ParamLengths.{params_no_longer}
-use Rattle.value_laws.proofs.ProtocolLengths.{protocols_no_longer}
+use Rattle.value_laws.proofs.{ParamLengths.params_no_longer, ProtocolLengths.protocols_no_longer}
 use Rattle.value_laws.proofs.VersionLengths.{versions_no_longer}
 use Rattle.value_groups.specs.Listed.{params_in, protocols_in, versions_in}
-use Rattle.list_values.specs.Params.{params_text}
-use Rattle.list_values.specs.Protocols.{protocols_text}
-use Rattle.list_values.specs.VersionLists.{versions_text}
+use Rattle.list_values.specs.{Params.params_text, Protocols.protocols_text, VersionLists.versions_text}
 use Rattle.document_laws.specs.Counts.{RowsStand}
 use Rattle.range_laws.proofs.ValueTexts.{TextIs, text_ranged}
-use Rattle.station_input.specs.Tables.{station_tables}
+use Rattle.station_input.specs.{Tables.station_tables, declared.frame_said.StationValue.StationValue, Saying.source_in}
+use Rattle.station_input.specs.Saying.{source_of_value}
 use Rattle.station_input.specs.declared.frame.StationKind.TheVariants as kind
 use Rattle.station_input.specs.declared.frame.StationSection.TheVariants as its
-use Rattle.station_input.specs.declared.frame_said.StationValue.{StationValue}
 use Rattle.station_input.specs.declared.frame_said.StationValue.TheVariants as own
-use Rattle.vote_terms.specs.ListLines.{lists_in, vote_lists}
-use Rattle.station_input.specs.Saying.{source_in, source_of_value}
-use Rattle.maker_laws.proofs.StationStands.{own_there}
-use Rattle.vote_terms.specs.declared.lists.VoteLists.{VoteLists}
-use Rattle.vote_text.specs.Lists.{param_items, protocol_items, version_items}
-use Rattle.maker_laws.specs.Lines.{HasShortLine}
-use Rattle.maker_laws.proofs.ItemLines.{FitsLine, shorter_fits}
-use Rattle.maker_laws.proofs.OwnLine.{IsShortSource, SourceFits, source_fits}
-use Rattle.station_laws.proofs.NamedOnce.{StationTaken}
-use Rattle.maker_laws.proofs.StandingLines.{EachStandsShort, contact_fits}
+use Rattle.vote_terms.specs.{ListLines.{lists_in, vote_lists}, declared.lists.VoteLists.VoteLists}
+use Rattle.maker_laws.proofs.{StationStands.own_there, ItemLines.{FitsLine, shorter_fits}, OwnLine.IsShortSource}
+use Rattle.maker_laws.proofs.{OwnLine.{SourceFits, source_fits}, StandingLines.{EachStandsShort, contact_fits}}
 use Rattle.maker_laws.proofs.StandingLines.{item_short, params_fit, protocols_fit, versions_fit}
+use Rattle.maker_laws.specs.Lines.{HasShortLine}
+use Rattle.vote_text.specs.Lists.{param_items, protocol_items, version_items}
+use Rattle.station_laws.proofs.KeptLines.{StationTaken}
 
 -- ---- lines of lists
 

@@ -1,21 +1,15 @@
 -- The line of each item of an input is no longer than a line may be, also where its keyword and its rest are written
 -- anew.
-use Rattle.std.proofs.Common.{◌≡◌, ℕ, ◌+◌, ◌-◌, ◌≤◌, Bool, true, false, cond, List, [], ◌∷◌, ◌++◌, length, drop}
-use Rattle.std.proofs.Common.{Option, Some, None, refl, sym, ap, subst, ◌∙◌, arith, length-append}
-use Rattle.std.specs.Prelude.{if◌then◌else◌}
-use Rattle.std.specs.List.{prefix_len, suffix_len}
-use Rattle.std.proofs.lemmas.Bool.{and_parts, false≢true}
-use Rattle.std.proofs.lemmas.List.{length-drop, length-take}
-use Rattle.std.proofs.lemmas.List.Sums.{prefix_len-le-length}
-use Rattle.item_terms.specs.declared.fault.DocFault.{DocFault}
-use Rattle.item_terms.specs.Faults.{line_fault, max_line}
-use Rattle.item_terms.specs.Items.{Contents, Item, items_from}
-use Rattle.item_terms.specs.Lines.{Line, lines, size}
-use Rattle.item_terms.specs.Words.{after_keyword, arguments, ends_or_blank, first_is, is_blank, is_keyword_line}
-use Rattle.item_terms.specs.Words.{is_letter_or_digit, keyword, keyword_len, trim, trim_front}
+use Rattle.std.proofs.Common.{◌≡◌, ℕ, ◌+◌, ◌-◌, ◌≤◌, Bool, true, false, cond, List, [], ◌∷◌, ◌++◌, length, drop, Option}
+use Rattle.std.proofs.{Common.{Some, None, refl, sym, ap, subst, ◌∙◌, arith, length-append}, lemmas.Bool.and_parts}
+use Rattle.std.proofs.lemmas.{Bool.false≢true, List.{length-drop, length-take, Sums.prefix_len-le-length}}
+use Rattle.std.specs.{Prelude.if◌then◌else◌, List.{prefix_len, suffix_len}}
+use Rattle.item_terms.specs.{declared.fault.DocFault.DocFault, Faults.{line_fault, max_line}, Items.{Contents, Item}}
+use Rattle.item_terms.specs.{Items.items_from, Lines.{Line, lines, size}, Words.{after_keyword, arguments}}
+use Rattle.item_terms.specs.Words.{ends_or_blank, first_is, is_blank, is_keyword_line, is_letter_or_digit, keyword}
+use Rattle.item_terms.specs.Words.{keyword_len, trim, trim_front}
 use Rattle.dirdoc_grammar.specs.Writing.{tail}
-use Rattle.grammar_laws.specs.Blocks.{AreLinesOfItems}
-use Rattle.grammar_laws.proofs.BlockFronts.{fault_is_there, items_are_there}
+use Rattle.grammar_laws.{specs.Blocks.AreLinesOfItems, proofs.BlockFronts.{fault_is_there, items_are_there}}
 use Rattle.grammar_laws.proofs.SoundLines.{has_end}
 use Rattle.range_laws.proofs.TextSizes.{tail_short}
 use Rattle.maker_laws.proofs.SoundBack.{line_fits}

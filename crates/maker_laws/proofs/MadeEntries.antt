@@ -1,33 +1,24 @@
 -- The entries that are made of descriptors that are in range are in range.
-use Rattle.std.proofs.Common.{◌≡◌, ℕ, ◌≤◌, true, false, List, [], ◌∷◌, length, map, filter, get_or}
-use Rattle.std.proofs.Common.{Option, Some, None, sym, ◌∙◌, arith}
-use Rattle.std.specs.Prelude.{All, AllPairs}
-use Rattle.std.specs.Prelude.{not}
-use Rattle.std.specs.List.{list_any}
-use Rattle.std.proofs.lemmas.Bool.{and_from, and_parts, false≢true, not-true}
+use Rattle.std.proofs.Common.{◌≡◌, ℕ, ◌≤◌, true, false, List, [], ◌∷◌, length, map, filter, get_or, Option, Some, None}
+use Rattle.std.proofs.{Common.{sym, ◌∙◌, arith}, lemmas.Bool.{and_from, and_parts, false≢true, not-true}}
 use Rattle.std.proofs.lemmas.List.Elements.{All-filter, All-head, All-map, All-tail, filter_passes}
-use Rattle.std.proofs.lemmas.List.Kept.{AllPairs-filter}
-use Rattle.std.proofs.lemmas.Slice.Eq.{bytes_eq-Decides}
-use Rattle.dir_values.specs.Digests.{identity_below}
-use Rattle.dir_values.proofs.Orders.{AllPairs-cons, AllPairs-head, AllPairs-nil, AllPairs-tail}
+use Rattle.std.{proofs.lemmas.{List.Kept.AllPairs-filter, Slice.Eq.bytes_eq-Decides}, specs.Prelude.{All, AllPairs}}
+use Rattle.std.specs.{Prelude.not, List.list_any}
+use Rattle.dir_values.{specs.Digests.identity_below, proofs.Orders.{AllPairs-cons, AllPairs-head, AllPairs-nil}}
+use Rattle.dir_values.proofs.Orders.{AllPairs-tail}
 use Rattle.descriptor_frame.specs.declared.certificate.EdCert.{EdCert}
 use Rattle.relay_entries.specs.declared.said.EdOpinion.TheVariants as opinion
 use Rattle.descriptor_doc.specs.declared.descriptor.Descriptor.{Descriptor}
-use Rattle.flag_rules.specs.Rulings.{is_reject}
-use Rattle.flag_rules.specs.declared.flags.Flags.{Flags}
-use Rattle.flag_rules.specs.declared.relay.RuledRelay.{RuledRelay}
+use Rattle.flag_rules.specs.{Rulings.is_reject, declared.{flags.Flags.Flags, relay.RuledRelay.RuledRelay}}
 use Rattle.vote_pool.specs.Pools.{DescriptorsAscend, most_relays}
 use Rattle.count_terms.specs.declared.newest.Newest.{Newest}
 use Rattle.vote_terms.specs.declared.entry.EntryFacts.{EntryFacts}
-use Rattle.vote_laws.specs.Again.{AreEntriesInRange, DifferInKey, IsEntryInRange}
-use Rattle.vote_maker.specs.Entries.{opinion_of}
-use Rattle.vote_maker.specs.Listings.{JudgedRelay, entry_of_judged, goes_before, has_entry, judged_relays}
-use Rattle.vote_maker.specs.Listings.{made_entries}
-use Rattle.vote_maker.specs.Listings.{listed_relays, same_key}
-use Rattle.range_laws.proofs.EntryTexts.{HasRests}
-use Rattle.range_laws.proofs.KeptEntries.{count_map}
-use Rattle.vote_laws.proofs.Members.{AllPairs-map, few_pass, none_any}
+use Rattle.vote_laws.{specs.Again.{AreEntriesInRange, DifferInKey, IsEntryInRange}, proofs.Members.AllPairs-map}
+use Rattle.vote_laws.proofs.Members.{few_pass, none_any}
+use Rattle.vote_maker.specs.{Entries.opinion_of, Listings.{JudgedRelay, entry_of_judged, goes_before, has_entry}}
+use Rattle.vote_maker.specs.Listings.{judged_relays, made_entries, listed_relays, same_key}
 use Rattle.vote_maker.proofs.Judged.{judged_ascend, judged_few}
+use Rattle.range_laws.proofs.{EntryTexts.HasRests, KeptEntries.count_map}
 use Rattle.maker_laws.proofs.EntryRanges.{IsBelow, IsJudgedInRange, entry_ranged, entry_rests}
 
 -- ---- no two of one key

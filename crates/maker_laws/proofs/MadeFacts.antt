@@ -1,40 +1,22 @@
 -- What is made of what is in range says what can be read, and its items may be written.
-use Rattle.std.proofs.Common.{◌≡◌, ℕ, List, ◌++◌, refl, subst}
-use Rattle.std.proofs.Common.{arith}
-use Rattle.std.specs.Prelude.{All}
-use Rattle.std.proofs.lemmas.List.Elements.{All-append}
-use Rattle.std.proofs.lemmas.List.Sums.{AllPass-from_list_all}
-use Rattle.dir_values.specs.FlagSets.{Ascend, as_set}
-use Rattle.dir_values.specs.FlagSets.{is_name}
-use Rattle.dir_values.proofs.Flags.{Ascend-as_set}
+use Rattle.std.proofs.{Common.{◌≡◌, ℕ, List, ◌++◌, refl, subst, arith}, lemmas.List.Elements.All-append}
+use Rattle.std.{proofs.lemmas.List.Sums.AllPass-from_list_all, specs.Prelude.All}
+use Rattle.dir_values.{specs.FlagSets.{Ascend, as_set, is_name}, proofs.Flags.Ascend-as_set}
 use Rattle.grammar_laws.specs.Written.{IsItem}
 use Rattle.authority_certs.specs.Texts.{cert_items}
 use Rattle.count_terms.specs.declared.newest.Newest.{Newest}
-use Rattle.vote_laws.proofs.Digests.{twenty}
-use Rattle.descriptor_laws.specs.ReadRanges.{IsDescriptorInRange}
-use Rattle.flag_rules.specs.Flags.{flags_of}
-use Rattle.flag_rules.specs.Relays.{ruled_relays}
-use Rattle.flag_rules.specs.declared.flags.Flags.{Flags}
-use Rattle.flag_rules.specs.declared.relay.RuledRelay.{RuledRelay}
-use Rattle.flag_rules.specs.declared.ruling.Ruling.{Ruling}
-use Rattle.maker_laws.specs.Ranges.{IsStationInRange}
-use Rattle.vote_terms.specs.declared.facts.VoteFacts.{VoteFacts}
-use Rattle.vote_text.specs.Entries.{entries_items}
-use Rattle.vote_text.specs.Texts.{authority_items, footer_items, preamble_items}
+use Rattle.vote_laws.proofs.{Digests.twenty, BareRows.no_rests, Members.{back_of, front_of}, VoteRows.preamble_texts}
 use Rattle.vote_laws.specs.Again.{AreEntriesInRange, AreFlags, AreMethods, HasValuesInRange, IsSignatureInRange}
-use Rattle.vote_laws.proofs.BareRows.{no_rests}
-use Rattle.vote_laws.proofs.Members.{back_of, front_of}
-use Rattle.vote_laws.proofs.VoteRows.{preamble_texts}
-use Rattle.range_laws.proofs.EntryTexts.{HasRests}
-use Rattle.range_laws.proofs.VoteTexts.{SaysWhole, vote_may}
-use Rattle.vote_maker.specs.Entries.{made_methods}
-use Rattle.vote_maker.specs.Listings.{judged_relays}
-use Rattle.vote_maker.specs.Made.{Basis, made_flags, relays_in}
-use Rattle.maker_laws.specs.Given.{IsBasis}
-use Rattle.maker_laws.specs.ReadAsMade.{IsMadeInRangeButForLimits, IsSigning, signed_facts}
-use Rattle.maker_laws.proofs.EntryRanges.{IsJudgedInRange, judged_ranged}
-use Rattle.maker_laws.proofs.MadeEntries.{entries_ranged, entries_rests}
-use Rattle.maker_laws.proofs.MicroLines.{methods_few, methods_in_range}
+use Rattle.descriptor_laws.specs.ReadRanges.{IsDescriptorInRange}
+use Rattle.flag_rules.specs.{Flags.flags_of, Relays.ruled_relays, declared.flags.Flags.Flags}
+use Rattle.flag_rules.specs.declared.{relay.RuledRelay.RuledRelay, ruling.Ruling.Ruling}
+use Rattle.maker_laws.specs.{Ranges.IsStationInRange, Given.IsBasis, ReadAsMade.{IsMadeInRangeButForLimits, IsSigning}}
+use Rattle.maker_laws.{specs.ReadAsMade.signed_facts, proofs.EntryRanges.{IsJudgedInRange, judged_ranged}}
+use Rattle.maker_laws.proofs.{MadeEntries.{entries_ranged, entries_rests}, MicroLines.{methods_few, methods_in_range}}
+use Rattle.vote_terms.specs.declared.facts.VoteFacts.{VoteFacts}
+use Rattle.vote_text.specs.{Entries.entries_items, Texts.{authority_items, footer_items, preamble_items}}
+use Rattle.range_laws.proofs.{EntryTexts.HasRests, VoteTexts.{SaysWhole, vote_may}}
+use Rattle.vote_maker.specs.{Entries.made_methods, Listings.judged_relays, Made.{Basis, made_flags, relays_in}}
 
 -- ---- what is the same in every made vote
 

@@ -1,37 +1,23 @@
 -- Items whose lines and objects are short enough pass no limit where the whole text passes none.
 use Rattle.std.proofs.Common.{◌≡◌, ℕ, ◌+◌, ◌*◌, ◌≤◌, List, [], ◌∷◌, ◌++◌, length, length-append, get_or, Option, Some}
-use Rattle.std.proofs.Common.{None, ap}
-use Rattle.std.proofs.Common.{◌∙◌, arith}
-use Rattle.std.specs.Prelude.{All, IfSome, codes}
-use Rattle.dir_values.specs.declared.algorithm.Algorithm.{Algorithm}
-use Rattle.dir_values.specs.declared.algorithm.Algorithm.TheVariants.{Sha1, Sha256}
-use Rattle.std.proofs.lemmas.List.Elements.{All-append, All-cons, All-head, All-nil, All-tail}
+use Rattle.std.proofs.{Common.{None, ap, ◌∙◌, arith}, lemmas.List.Elements.{All-append, All-cons, All-head, All-nil}}
+use Rattle.std.{proofs.lemmas.List.Elements.All-tail, specs.Prelude.{All, IfSome, codes}}
+use Rattle.dir_values.specs.declared.algorithm.Algorithm.{Algorithm, TheVariants.{Sha1, Sha256}}
 use Rattle.item_terms.specs.Faults.{max_line, max_object}
-use Rattle.dir_bytes.specs.FieldTexts.{hex_text}
-use Rattle.dir_bytes.proofs.Spelling.{length-hex_text}
-use Rattle.dirdoc_grammar.specs.Bodies.{object_text}
-use Rattle.dirdoc_grammar.specs.Writing.{NewItem, NewObject, item_text, items_text, tail}
+use Rattle.dir_bytes.{specs.FieldTexts.hex_text, proofs.Spelling.length-hex_text}
+use Rattle.dirdoc_grammar.specs.{Bodies.object_text, Writing.{NewItem, NewObject, item_text, items_text, tail}}
 use Rattle.grammar_laws.specs.Written.{AreWithinLimits}
-use Rattle.frame_terms.specs.Keywords.{text_of}
-use Rattle.frame_terms.specs.declared.keyword.Keyword.{Keyword}
+use Rattle.frame_terms.specs.{Keywords.text_of, declared.keyword.Keyword.Keyword}
 use Rattle.frame_terms.specs.declared.keyword.Keyword.TheVariants as the
 use Rattle.frame_values.specs.Items.{bare, with_object}
 use Rattle.key_port.specs.Signing.{signature_limit}
-use Rattle.vote_terms.specs.declared.facts.SignatureFacts.{SignatureFacts}
-use Rattle.vote_terms.specs.declared.facts.VoteFacts.{VoteFacts}
-use Rattle.vote_text.specs.Entries.{entries_items}
-use Rattle.vote_text.specs.Made.{made_text}
-use Rattle.vote_text.specs.Texts.{authority_items, footer_items, preamble_items, signer_text}
-use Rattle.vote_text.specs.Texts.{algorithm_text}
-use Rattle.vote_terms.specs.Votes.{max_vote}
-use Rattle.vote_laws.specs.Again.{IsSignatureInRange}
-use Rattle.vote_laws.specs.Made.{IsMadeInRange}
-use Rattle.vote_laws.proofs.MadeTexts.{before_same, before_text, behind_same, behind_text, text_parts}
-use Rattle.vote_laws.proofs.MayWrite.{items_writable}
+use Rattle.vote_terms.specs.{declared.facts.{SignatureFacts.SignatureFacts, VoteFacts.VoteFacts}, Votes.max_vote}
+use Rattle.vote_text.specs.{Entries.entries_items, Made.made_text, Texts.{authority_items, footer_items}}
+use Rattle.vote_text.specs.Texts.{preamble_items, signer_text, algorithm_text}
+use Rattle.vote_laws.{specs.{Again.IsSignatureInRange, Made.IsMadeInRange}, proofs.MadeTexts.{before_same, before_text}}
+use Rattle.vote_laws.proofs.{MadeTexts.{behind_same, behind_text, text_parts}, MayWrite.items_writable}
 use Rattle.range_laws.proofs.TextSizes.{keyword_short, tail_short}
-use Rattle.maker_laws.specs.Lines.{HasShortLine}
-use Rattle.maker_laws.specs.ReadAsMade.{IsMadeInRangeButForLimits}
-use Rattle.maker_laws.proofs.ObjectFits.{object_fits}
+use Rattle.maker_laws.{specs.{Lines.HasShortLine, ReadAsMade.IsMadeInRangeButForLimits}, proofs.ObjectFits.object_fits}
 
 -- ---- lines
 

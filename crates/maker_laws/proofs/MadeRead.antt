@@ -1,38 +1,23 @@
 -- A made vote is read as what it was made to say.
-use Rattle.std.proofs.Common.{ℕ, List, ◌++◌, refl, sym, ap, subst}
+use Rattle.std.proofs.{Common.{ℕ, List, ◌++◌, refl, sym, ap, subst}, lemmas.List.Elements.All-weaker}
 use Rattle.std.specs.Prelude.{All}
-use Rattle.std.proofs.lemmas.List.Elements.{All-weaker}
 use Rattle.descriptor_laws.specs.ReadRanges.{DescriptorsReadAreInRange, IsDescriptorInRange}
-use Rattle.flag_rules.specs.Flags.{flags_of}
-use Rattle.flag_rules.specs.Relays.{ruled_relays}
-use Rattle.flag_rules.specs.declared.ruling.Ruling.{Ruling}
+use Rattle.flag_rules.specs.{Flags.flags_of, Relays.ruled_relays, declared.ruling.Ruling.Ruling}
 use Rattle.certificate_laws.specs.Given.{IsGiven}
-use Rattle.vote_laws.proofs.BareRows.{IsBare, no_rests}
-use Rattle.vote_laws.proofs.BareVotes.{before_bare}
-use Rattle.vote_laws.proofs.MadeAgain.{made_again}
+use Rattle.vote_laws.proofs.{BareRows.{IsBare, no_rests}, BareVotes.before_bare, MadeAgain.made_again}
 use Rattle.vote_laws.proofs.VoteRows.{preamble_texts}
-use Rattle.maker_laws.proofs.GivenCert.{certificates_are_given}
+use Rattle.maker_laws.proofs.{GivenCert.certificates_are_given, GivenLines.given_short, StationKept.station_in_range}
+use Rattle.maker_laws.proofs.{EntryRanges.judged_ranged, MadeEntries.entries_rests, MadeFacts.made_ranged}
+use Rattle.maker_laws.proofs.{MadeLimits.{HasNone, made_in_range}, ReadDescriptors.descriptor_ranged}
+use Rattle.maker_laws.{proofs.{ShortEntries.made_short, ShortPreamble.before_short}, specs.Lines.HasShortLines}
+use Rattle.maker_laws.specs.{Ranges.IsStationInRange, Given.{IsBasis, IsDescriptor, StationsReadAreStations}}
+use Rattle.maker_laws.specs.ReadAsMade.{MadeAreInRange, MadeVotesReadAsMade, signed_facts}
 use Rattle.station_input.specs.declared.facts.StationFacts.{StationFacts}
-use Rattle.maker_laws.specs.Lines.{HasShortLines}
-use Rattle.maker_laws.proofs.GivenLines.{given_short}
-use Rattle.maker_laws.specs.Ranges.{IsStationInRange}
-use Rattle.maker_laws.proofs.StationKept.{station_in_range}
 use Rattle.vote_frame.specs.Tables.{vote_tables}
 use Rattle.vote_frame.specs.declared.frame.VoteSection.TheVariants as section
-use Rattle.vote_text.specs.Entries.{entries_items}
-use Rattle.vote_text.specs.Texts.{authority_items, preamble_items}
+use Rattle.vote_text.specs.{Entries.entries_items, Texts.{authority_items, preamble_items}}
 use Rattle.range_laws.proofs.EntryTexts.{entries_bare}
-use Rattle.vote_maker.specs.Listings.{judged_relays}
-use Rattle.vote_maker.specs.Made.{Basis, relays_in}
-use Rattle.maker_laws.specs.Given.{IsBasis, IsDescriptor, StationsReadAreStations}
-use Rattle.maker_laws.specs.ReadAsMade.{MadeAreInRange, MadeVotesReadAsMade, signed_facts}
-use Rattle.maker_laws.proofs.EntryRanges.{judged_ranged}
-use Rattle.maker_laws.proofs.MadeEntries.{entries_rests}
-use Rattle.maker_laws.proofs.MadeFacts.{made_ranged}
-use Rattle.maker_laws.proofs.MadeLimits.{HasNone, made_in_range}
-use Rattle.maker_laws.proofs.ReadDescriptors.{descriptor_ranged}
-use Rattle.maker_laws.proofs.ShortEntries.{made_short}
-use Rattle.maker_laws.proofs.ShortPreamble.{before_short}
+use Rattle.vote_maker.specs.{Listings.judged_relays, Made.{Basis, relays_in}}
 
 -- ---- what was read
 

@@ -1,30 +1,23 @@
 -- The methods of a made vote and the `m` lines of its entries, by the newest method that is known.
-use Rattle.std.proofs.Common.{ℕ, ◌+◌, ◌≤◌, Bool, true, false, List, [], ◌∷◌, ◌++◌, length, length-append, map}
-use Rattle.std.proofs.Common.{Option, Some, None, arith}
-use Rattle.std.specs.Prelude.{All, codes, decimal, option_map, if◌then◌else◌}
-use Rattle.std.specs.List.{join_with_byte}
-use Rattle.std.specs.Str.{bytes_eq}
-use Rattle.std.proofs.lemmas.Fmt.{length-decimal-le_succ}
-use Rattle.std.proofs.lemmas.List.Elements.{All-cons, All-nil}
+use Rattle.std.proofs.Common.{ℕ, ◌+◌, ◌≤◌, Bool, true, false, List, [], ◌∷◌, ◌++◌, length, length-append, map, Option}
+use Rattle.std.proofs.{Common.{Some, None, arith}, lemmas.{Fmt.length-decimal-le_succ, List.Elements.All-cons}}
+use Rattle.std.{proofs.lemmas.List.Elements.All-nil, specs.Prelude.{All, codes, decimal, option_map, if◌then◌else◌}}
+use Rattle.std.specs.{List.join_with_byte, Str.bytes_eq}
 use Rattle.count_terms.specs.declared.newest.Newest.{Newest}
 use Rattle.count_terms.specs.declared.newest.Newest.TheVariants as newest_is
 use Rattle.item_terms.specs.Bytes.{comma}
-use Rattle.dir_bytes.specs.FieldTexts.{base64_text}
-use Rattle.dir_bytes.proofs.Spelling.{length-base64_text}
+use Rattle.dir_bytes.{specs.FieldTexts.base64_text, proofs.Spelling.length-base64_text}
 use Rattle.dir_values.specs.declared.digest.Digest2.{Digest2}
 use Rattle.exit_summary.specs.Summaries.{summary_of}
 use Rattle.group_laws.specs.Ranges.{AreMethodsInRange, AreThirtyTwo}
 use Rattle.relay_entries.specs.Texts.{methods_text}
 use Rattle.descriptor_doc.specs.declared.descriptor.Descriptor.{Descriptor}
-use Rattle.micro_desc.specs.Makings.{micro_with_families}
-use Rattle.micro_desc.specs.Texts.{micro_text}
-use Rattle.micro_desc.specs.declared.micro.Micro.{Micro}
+use Rattle.micro_desc.specs.{Makings.micro_with_families, Texts.micro_text, declared.micro.Micro.Micro}
 use Rattle.vote_pool.specs.Summaries.{digest_or, family_digest_of, micro_digest_of, micro_text_of, with_digest}
 use Rattle.vote_terms.specs.declared.entry.MicroFacts.{MicroFacts}
 use Rattle.vote_text.specs.Entries.{micro_line}
-use Rattle.vote_laws.specs.Again.{IsMicroInRange}
+use Rattle.vote_laws.{specs.Again.IsMicroInRange, proofs.Digests.thirty_two}
 use Rattle.vote_maker.specs.Entries.{made_methods, micro_of_digest, micros_of}
-use Rattle.vote_laws.proofs.Digests.{thirty_two}
 
 abbrev Is32 : ℕ → Type 0
 Is32 n = n ≤ 4294967295

@@ -1,7 +1,5 @@
 -- The object of a signature that a signer may give is within its limit.
-use Rattle.std.proofs.Common.{◌≡◌, ℕ, ◌+◌, ◌≤◌, List, [], ◌∷◌, ◌++◌, length}
-use Rattle.std.proofs.Common.{length-append}
-use Rattle.std.proofs.Common.{refl, arith}
+use Rattle.std.proofs.Common.{◌≡◌, ℕ, ◌+◌, ◌≤◌, List, [], ◌∷◌, ◌++◌, length, length-append, refl, arith}
 use Rattle.std.specs.Prelude.{codes}
 use Rattle.item_terms.specs.Faults.{max_object}
 use Rattle.dirdoc_grammar.specs.Bodies.{base64_of, begin_line, body_text, end_line, object_text}

@@ -1,33 +1,20 @@
 -- The `dir-source` line of a vote, of an authority that a station input names, is no longer than a line may be.
-use Rattle.std.proofs.Common.{◌≡◌, ℕ, ◌+◌, ◌≤◌, Bool, true, false, List, [], ◌∷◌, ◌++◌, length}
-use Rattle.std.proofs.Common.{Ok, refl, ap, ◌∙◌, arith, length-append}
-use Rattle.std.specs.Prelude.{codes, decimal}
-use Rattle.std.proofs.lemmas.Bool.{leb-true}
-use Rattle.item_terms.specs.Bytes.{line_feed, space}
-use Rattle.item_terms.specs.Faults.{max_line}
-use Rattle.item_terms.specs.Items.{Item}
+use Rattle.std.proofs.Common.{◌≡◌, ℕ, ◌+◌, ◌≤◌, Bool, true, false, List, [], ◌∷◌, ◌++◌, length, Ok, refl, ap, ◌∙◌}
+use Rattle.std.{proofs.{Common.{arith, length-append}, lemmas.Bool.leb-true}, specs.Prelude.{codes, decimal}}
+use Rattle.item_terms.specs.{Bytes.{line_feed, space}, Faults.max_line, Items.Item}
 use Rattle.dir_bytes.specs.FieldTexts.{address_text, hex_text}
 use Rattle.dirdoc_grammar.specs.Writing.{tail}
-use Rattle.frame_values.specs.Arguments.{arguments_of, front, others}
-use Rattle.frame_values.specs.Lines.{source_of}
-use Rattle.frame_values.specs.Parts.{part}
-use Rattle.frame_values.specs.declared.found.DirSource.{DirSource}
-use Rattle.frame_values.specs.declared.values.Value.{Value}
+use Rattle.frame_values.specs.{Arguments.{arguments_of, front, others}, Lines.source_of, Parts.part}
+use Rattle.frame_values.specs.declared.{found.DirSource.DirSource, values.Value.Value}
 use Rattle.frame_values.specs.declared.values.Value.TheVariants as value
-use Rattle.row_laws.proofs.ItemArguments.{IsSound}
-use Rattle.row_laws.proofs.ReadSteps.{ReadAs, next_reads, no_fault, was_read}
-use Rattle.station_input.specs.Lines.{own_of}
-use Rattle.station_input.specs.Sources.{fits_line, names_part, ports_part, source_line}
-use Rattle.station_input.specs.Tables.{over_limit, value_at}
+use Rattle.row_laws.proofs.{ItemArguments.IsSound, ReadSteps.{ReadAs, next_reads, no_fault, was_read}}
+use Rattle.station_input.specs.{Lines.own_of, Sources.{fits_line, names_part, ports_part, source_line}}
+use Rattle.station_input.specs.{Tables.{over_limit, value_at}, declared.frame_said.StationValue.StationValue}
 use Rattle.station_input.specs.declared.frame.StationKind.TheVariants as kind
-use Rattle.station_input.specs.declared.frame_said.StationValue.{StationValue}
 use Rattle.station_input.specs.declared.frame_said.StationValue.TheVariants as own
 use Rattle.frame_terms.specs.declared.keyword.Keyword.{Keyword}
-use Rattle.range_laws.proofs.LineReads.{IsNamed, named_reads}
-use Rattle.range_laws.proofs.TextSizes.{tail_short}
-use Rattle.maker_laws.proofs.ItemLines.{FitsLine}
-use Rattle.maker_laws.proofs.StationReads.{own_if}
-use Rattle.maker_laws.proofs.StandingLines.{SaysShort}
+use Rattle.range_laws.proofs.{LineReads.{IsNamed, named_reads}, TextSizes.tail_short}
+use Rattle.maker_laws.proofs.{ItemLines.FitsLine, StationReads.own_if, StandingLines.SaysShort}
 
 -- ---- the line by its parts
 

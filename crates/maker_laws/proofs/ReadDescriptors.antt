@@ -1,9 +1,7 @@
 -- A descriptor that an authority reads, with its families or without, is in range.
 use Rattle.std.proofs.Common.{sym, subst}
-use Rattle.count_terms.specs.declared.newest.Newest.{Newest}
-use Rattle.count_terms.specs.declared.newest.Newest.TheVariants.{Method33, Method34, Method35}
-use Rattle.descriptor_doc.specs.Reading.{as_read}
-use Rattle.descriptor_doc.specs.declared.descriptor.Descriptor.{Descriptor}
+use Rattle.count_terms.specs.declared.newest.Newest.{Newest, TheVariants.{Method33, Method34, Method35}}
+use Rattle.descriptor_doc.specs.{Reading.as_read, declared.descriptor.Descriptor.Descriptor}
 use Rattle.descriptor_doc.proofs.ReadUnder.{own_read}
 use Rattle.descriptor_laws.specs.ReadRanges.{DescriptorsReadAreInRange, IsDescriptorInRange}
 use Rattle.maker_laws.specs.Given.{IsDescriptor}

@@ -1,12 +1,9 @@
 -- The words of the rest of a line are words.
-use Rattle.std.proofs.Common.{◌≡◌, ℕ, Bool, true, false, List, [], ◌∷◌, refl}
-use Rattle.std.specs.Prelude.{◌==◌, not, ◌&&◌, if◌then◌else◌}
-use Rattle.std.specs.List.{list_all}
-use Rattle.std.proofs.lemmas.Bool.{and_from, and_parts}
-use Rattle.std.proofs.lemmas.List.Elements.{All-cons, All-head, All-nil, All-tail}
+use Rattle.std.proofs.{Common.{◌≡◌, ℕ, Bool, true, false, List, [], ◌∷◌, refl}, lemmas.Bool.{and_from, and_parts}}
+use Rattle.std.{proofs.lemmas.List.Elements.{All-cons, All-head, All-nil, All-tail}, specs.Prelude.{◌==◌, not, ◌&&◌}}
+use Rattle.std.specs.{Prelude.if◌then◌else◌, List.list_all}
 use Rattle.item_terms.specs.Words.{ends_or_blank, is_blank, onto_word, words_of}
-use Rattle.dirdoc_grammar.specs.Writers.{is_argument_byte}
-use Rattle.dirdoc_grammar.specs.Writing.{IsLineRest}
+use Rattle.dirdoc_grammar.specs.{Writers.is_argument_byte, Writing.IsLineRest}
 use Rattle.frame_laws.proofs.WordTexts.{AreWords, IsWord, bytes_of}
 
 line_byte : (b : ℕ) → is_blank b ≡ false → not (b == 10) ≡ true → not (b == 0) ≡ true → is_argument_byte b ≡ true

@@ -1,27 +1,18 @@
 -- The bandwidth of each relay line of a bandwidth file has 32 bits.
 use Rattle.std.proofs.Common.{◌≡◌, ℕ, ◌≤◌, Bool, true, false, List, [], ◌∷◌, ◌++◌, Option, Some, None, refl}
-use Rattle.std.proofs.Common.{if◌then◌else◌}
-use Rattle.std.specs.Prelude.{◌==◌, All, IfSome}
-use Rattle.std.specs.List.{cons_option, list_any}
-use Rattle.std.proofs.lemmas.List.Elements.{All-cons, All-nil}
-use Rattle.item_terms.specs.Lines.{Line}
-use Rattle.item_terms.specs.Words.{is_blank_line}
+use Rattle.std.{proofs.{Common.if◌then◌else◌, lemmas.List.Elements.{All-cons, All-nil}}, specs.Prelude.{◌==◌, All}}
+use Rattle.std.specs.{Prelude.IfSome, List.{cons_option, list_any}}
+use Rattle.item_terms.specs.{Lines.Line, Words.is_blank_line}
 use Rattle.dir_bytes.specs.Fields.{number}
-use Rattle.dir_values.specs.Arguments.{Argument}
-use Rattle.dir_values.specs.Numbers.{number_of}
-use Rattle.dir_values.specs.declared.digest.Fingerprint.{Fingerprint}
-use Rattle.bandwidth_file.specs.declared.refusal.BandFault.{BandFault}
+use Rattle.dir_values.specs.{Arguments.Argument, Numbers.number_of, declared.digest.Fingerprint.Fingerprint}
+use Rattle.bandwidth_file.specs.declared.{refusal.BandFault.BandFault, said.{Row.Row, Said.Said}}
+use Rattle.bandwidth_file.specs.{declared.section.Section.Section, Gathered.gathered_behind, Lines.{at, bw, last_value}}
+use Rattle.bandwidth_file.specs.{Lines.{line_fault, node_id, place_of, vote}, Relays.{identity_in, is_no_vote}}
+use Rattle.bandwidth_file.specs.{Relays.{relay_line, relay_said, row_said}, Files.{filled_line, is_separator}}
+use Rattle.bandwidth_file.specs.Files.{names_relay, row_in, rows_of, said_by, said_if, section_of, time_said}
 use Rattle.bandwidth_file.specs.declared.refusal.BandReason.TheVariants as reason
-use Rattle.bandwidth_file.specs.declared.said.Row.{Row}
-use Rattle.bandwidth_file.specs.declared.said.Said.{Said}
 use Rattle.bandwidth_file.specs.declared.said.Said.TheVariants as said
-use Rattle.bandwidth_file.specs.declared.section.Section.{Section}
 use Rattle.bandwidth_file.specs.declared.section.Section.TheVariants as section
-use Rattle.bandwidth_file.specs.Gathered.{gathered_behind}
-use Rattle.bandwidth_file.specs.Lines.{at, bw, last_value, line_fault, node_id, place_of, vote}
-use Rattle.bandwidth_file.specs.Relays.{identity_in, is_no_vote, relay_line, relay_said, row_said}
-use Rattle.bandwidth_file.specs.Files.{filled_line, is_separator, names_relay, row_in, rows_of, said_by, said_if}
-use Rattle.bandwidth_file.specs.Files.{section_of, time_said}
 use Rattle.row_laws.proofs.ReadSteps.{number_within}
 
 -- a bandwidth of 32 bits

@@ -1,24 +1,15 @@
 -- What rulings make of a vote.
-use Rattle.std.proofs.Common.{◌≡◌, ℕ, zero, suc, ◌<◌, Bool, true, false, List, [], ◌∷◌, length, get_or, map}
-use Rattle.std.proofs.Common.{filter}
-use Rattle.std.proofs.Common.{Some, refl, sym, ap, subst, ◌∙◌, arith, ⊎_elim}
+use Rattle.std.proofs.Common.{◌≡◌, ℕ, zero, suc, ◌<◌, Bool, true, false, List, [], ◌∷◌, length, get_or, map, filter}
+use Rattle.std.proofs.{Common.{Some, refl, sym, ap, subst, ◌∙◌, arith, ⊎_elim}, lemmas.Bool.{cases_order, true≢false}}
+use Rattle.std.proofs.lemmas.{Bool.{false_from_ne_true, and_parts, not-true}, List.Elements.All-cons}
 use Rattle.std.specs.Prelude.{All, not, slice_get}
-use Rattle.std.proofs.lemmas.Bool.{cases_order, true≢false, false_from_ne_true, and_parts, not-true}
-use Rattle.std.proofs.lemmas.List.Elements.{All-cons}
-use Rattle.dir_values.proofs.Orders.{apart, apart_back}
-use Rattle.dir_values.specs.Digests.{identity_below, same_identity}
+use Rattle.dir_values.{proofs.Orders.{apart, apart_back}, specs.Digests.{identity_below, same_identity}}
 use Rattle.descriptor_doc.specs.declared.descriptor.Descriptor.{Descriptor}
-use Rattle.flag_rules.proofs.TableFacts.{rules_one_way}
-use Rattle.flag_rules.specs.Flags.{flags_of}
-use Rattle.flag_rules.specs.Relays.{ruled_relays}
-use Rattle.flag_rules.specs.Rulings.{is_reject}
-use Rattle.flag_rules.specs.declared.flags.Flags.{Flags}
-use Rattle.flag_rules.specs.declared.relay.RelayFacts.{RelayFacts}
-use Rattle.flag_rules.specs.declared.ruling.Ruling.{Ruling}
+use Rattle.flag_rules.{proofs.TableFacts.rules_one_way, specs.{Flags.flags_of, Relays.ruled_relays, Rulings.is_reject}}
+use Rattle.flag_rules.specs.declared.{flags.Flags.Flags, relay.RelayFacts.RelayFacts, ruling.Ruling.Ruling}
 use Rattle.vote_pool.specs.Pools.{DescriptorsAscend}
 use Rattle.vote_terms.specs.declared.entry.EntryFacts.{EntryFacts}
-use Rattle.vote_maker.specs.Listings.{JudgedRelay, entry_of_judged, has_entry, judged_relays}
-use Rattle.vote_maker.specs.Made.{made, relays_in}
+use Rattle.vote_maker.specs.{Listings.{JudgedRelay, entry_of_judged, has_entry, judged_relays}, Made.{made, relays_in}}
 use Rattle.maker_laws.specs.Rulings.{OperatorsMakeOneVote, RejectedRelaysHaveNoEntry}
 
 pub one_vote : OperatorsMakeOneVote

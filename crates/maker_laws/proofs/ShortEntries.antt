@@ -1,8 +1,7 @@
 -- No line of an entry that is made of a descriptor in range is longer than a line may be.
-use Rattle.std.proofs.Common.{ℕ, List, [], ◌∷◌, ◌++◌}
-use Rattle.std.proofs.Common.{map, Option, Some, None, arith}
-use Rattle.std.specs.Prelude.{All, IfSome, option_map, take}
-use Rattle.std.proofs.lemmas.List.Elements.{All-append, All-cons, All-filter, All-head, All-nil, All-tail}
+use Rattle.std.proofs.{Common.{ℕ, List, [], ◌∷◌, ◌++◌, map, Option, Some, None, arith}, lemmas.List.Elements.All-append}
+use Rattle.std.{proofs.lemmas.List.Elements.{All-cons, All-filter, All-head, All-nil, All-tail}, specs.Prelude.All}
+use Rattle.std.specs.Prelude.{IfSome, option_map, take}
 use Rattle.count_terms.specs.declared.newest.Newest.{Newest}
 use Rattle.dir_values.specs.FlagSets.{set_text}
 use Rattle.dirdoc_grammar.specs.Writing.{NewItem}
@@ -13,15 +12,12 @@ use Rattle.exit_summary.proofs.SummaryLaws as summary
 use Rattle.relay_entries.specs.Texts.{bandwidths_text, ed_text}
 use Rattle.descriptor_laws.specs.ReadRanges.{IsShortAddress}
 use Rattle.vote_terms.specs.declared.entry.MicroFacts.{MicroFacts}
-use Rattle.vote_text.specs.Entries.{entries_items, entry_items, items_each, line_of}
-use Rattle.vote_text.specs.Entries.{micro_items, micro_line}
+use Rattle.vote_text.specs.Entries.{entries_items, entry_items, items_each, line_of, micro_items, micro_line}
 use Rattle.vote_maker.specs.Listings.{JudgedRelay, entry_of_judged, has_entry, listed_relays, made_entries}
-use Rattle.maker_laws.specs.Lines.{HasShortLine}
-use Rattle.maker_laws.proofs.EntryRanges.{IsJudgedInRange, entry_ranged}
-use Rattle.maker_laws.proofs.MadeLimits.{line_short}
-use Rattle.maker_laws.proofs.MicroLines.{IsFine, relay_micros}
-use Rattle.maker_laws.proofs.ShortTexts.{IsMillion, bandwidths_short, key_short, names_short}
-use Rattle.maker_laws.proofs.ShortTexts.{platform_short, relay_short, rest_short}
+use Rattle.maker_laws.{specs.Lines.HasShortLine, proofs.EntryRanges.{IsJudgedInRange, entry_ranged}}
+use Rattle.maker_laws.proofs.{MadeLimits.line_short, MicroLines.{IsFine, relay_micros}, ShortTexts.IsMillion}
+use Rattle.maker_laws.proofs.ShortTexts.{bandwidths_short, key_short, names_short, platform_short, relay_short}
+use Rattle.maker_laws.proofs.ShortTexts.{rest_short}
 
 -- ---- its items
 

@@ -1,32 +1,22 @@
 -- The lines of a made vote before its certificate, but for those of its lists and of who it is, are no longer than a
 -- line may be.
-use Rattle.std.proofs.Common.{ℕ, ◌≤◌, List, [], ◌∷◌, ◌++◌, length, length-append, refl}
-use Rattle.std.proofs.Common.{arith}
-use Rattle.std.specs.Prelude.{All, codes, decimal}
-use Rattle.std.proofs.lemmas.Bool.{leb-true}
-use Rattle.std.proofs.lemmas.Fmt.{length-decimal-le}
-use Rattle.std.proofs.lemmas.List.Elements.{All-cons, All-nil}
+use Rattle.std.proofs.{Common.{ℕ, ◌≤◌, List, [], ◌∷◌, ◌++◌, length, length-append, refl, arith}, lemmas.Bool.leb-true}
+use Rattle.std.{proofs.lemmas.{Fmt.length-decimal-le, List.Elements.{All-cons, All-nil}}, specs.Prelude.{All, codes}}
+use Rattle.std.specs.Prelude.{decimal}
 use Rattle.item_terms.specs.Bytes.{space}
-use Rattle.dir_bytes.specs.FieldTexts.{moment_text}
-use Rattle.dir_bytes.proofs.Days.{length-moment_text}
-use Rattle.dir_values.specs.FlagSets.{set_text}
-use Rattle.dir_values.specs.Numbers.{numbers_text}
+use Rattle.dir_bytes.{specs.FieldTexts.moment_text, proofs.Days.length-moment_text}
+use Rattle.dir_values.specs.{FlagSets.set_text, Numbers.numbers_text}
 use Rattle.frame_terms.specs.declared.keyword.Keyword.{Keyword}
 use Rattle.frame_terms.specs.declared.keyword.Keyword.TheVariants as the
-use Rattle.frame_values.specs.Items.{bare, item_if, moment_item}
-use Rattle.frame_values.specs.Parts.{moment_of}
+use Rattle.frame_values.specs.{Items.{bare, item_if, moment_item}, Parts.moment_of}
 use Rattle.flag_rules.specs.declared.ruling.Ruling.{Ruling}
 use Rattle.vote_terms.specs.declared.facts.VoteFacts.{VoteFacts}
-use Rattle.vote_text.specs.Lists.{param_items, protocol_items, version_items}
-use Rattle.vote_text.specs.Texts.{authority_items, delays_text, flag_items, kind_items, preamble_items, source_text}
-use Rattle.vote_text.specs.Texts.{time_items}
+use Rattle.vote_text.specs.{Lists.{param_items, protocol_items, version_items}, Texts.{authority_items, delays_text}}
+use Rattle.vote_text.specs.Texts.{flag_items, kind_items, preamble_items, source_text, time_items}
 use Rattle.vote_laws.specs.Again.{HasValuesInRange}
-use Rattle.vote_maker.specs.Entries.{made_methods}
-use Rattle.vote_maker.specs.Made.{Basis, made_flags}
-use Rattle.maker_laws.specs.Lines.{HasShortLine, HasShortLines}
-use Rattle.maker_laws.specs.ReadAsMade.{signed_facts}
-use Rattle.maker_laws.proofs.ShortEntries.{AreShortLines, no_lines, one_line, ◌&◌}
-use Rattle.maker_laws.proofs.MicroLines.{methods_short}
+use Rattle.vote_maker.specs.{Entries.made_methods, Made.{Basis, made_flags}}
+use Rattle.maker_laws.specs.{Lines.{HasShortLine, HasShortLines}, ReadAsMade.signed_facts}
+use Rattle.maker_laws.proofs.{ShortEntries.{AreShortLines, no_lines, one_line, ◌&◌}, MicroLines.methods_short}
 
 two_short : (a b : ℕ) → a ≤ 4294967295 → b ≤ 4294967295 → length (decimal a ++ space ∷ decimal b) ≤ 1000000
 two_short a b first second =

@@ -1,40 +1,28 @@
 -- The texts in the lines of an entry that is in range are short.
-use Rattle.std.proofs.Common.{◌≡◌, ℕ, suc, ◌+◌, ◌/◌, ◌%◌, ◌≤◌, Bool, true, false, List, [], ◌∷◌, ◌++◌}
-use Rattle.std.proofs.Common.{length, length-append}
-use Rattle.std.proofs.Common.{map, filter, Option, Some, None, refl, ap, arith}
-use Rattle.std.specs.Prelude.{All, IfSome, codes, decimal, nat_le, option_and_then, option_map, ◌&&◌}
-use Rattle.std.specs.Prelude.{if◌then◌else◌}
-use Rattle.std.specs.List.{join_with_byte}
-use Rattle.std.specs.Str.{bytes_eq}
-use Rattle.std.proofs.lemmas.Bool.{and_parts, leb-true}
-use Rattle.std.proofs.lemmas.Fmt.{length-decimal-le, length-decimal-le_succ}
-use Rattle.std.proofs.lemmas.List.Elements.{All-cons, All-filter, All-head, All-map, All-nil, All-tail}
-use Rattle.std.proofs.lemmas.List.Elements.{All-weaker}
-use Rattle.std.proofs.lemmas.List.Sums.{AllPass-from_list_all}
-use Rattle.item_terms.specs.Bytes.{space}
-use Rattle.item_terms.specs.Words.{ends_or_blank, is_blank, onto_word, words_of}
+use Rattle.std.proofs.Common.{◌≡◌, ℕ, suc, ◌+◌, ◌/◌, ◌%◌, ◌≤◌, Bool, true, false, List, [], ◌∷◌, ◌++◌, length}
+use Rattle.std.proofs.{Common.{length-append, map, filter, Option, Some, None, refl, ap, arith}, lemmas.Bool.and_parts}
+use Rattle.std.proofs.lemmas.{Bool.leb-true, Fmt.{length-decimal-le, length-decimal-le_succ}, List.Elements.All-cons}
+use Rattle.std.proofs.lemmas.List.Elements.{All-filter, All-head, All-map, All-nil, All-tail, All-weaker}
+use Rattle.std.{proofs.lemmas.List.Sums.AllPass-from_list_all, specs.Prelude.{All, IfSome, codes, decimal, nat_le}}
+use Rattle.std.specs.{Prelude.{option_and_then, option_map, ◌&&◌, if◌then◌else◌}, List.join_with_byte, Str.bytes_eq}
+use Rattle.item_terms.specs.{Bytes.space, Words.{ends_or_blank, is_blank, onto_word, words_of}}
 use Rattle.dir_bytes.specs.FieldTexts.{address_text, base64_text, clock_text, date_text}
-use Rattle.dir_bytes.proofs.Days.{length-moment_text}
-use Rattle.dir_bytes.proofs.Spelling.{length-base64_text}
+use Rattle.dir_bytes.proofs.{Days.length-moment_text, Spelling.length-base64_text}
 use Rattle.dir_values.specs.FlagSets.{as_set, set_text}
 use Rattle.frame_values.specs.Parts.{moment_of}
 use Rattle.group_laws.specs.Ranges.{AreBandwidthsInRange, AreThirtyTwo, IsOpinionInRange, IsRelayInRange}
 use Rattle.group_laws.proofs.WrittenRelays.{relay_shape, words_of_relay}
-use Rattle.relay_entries.specs.Texts.{bandwidths_text, ed_text, number_word}
-use Rattle.relay_entries.specs.declared.said.Bandwidths.{Bandwidths}
+use Rattle.relay_entries.specs.{Texts.{bandwidths_text, ed_text, number_word}, declared.said.Bandwidths.Bandwidths}
 use Rattle.relay_entries.specs.declared.said.EdOpinion.{EdOpinion}
 use Rattle.relay_entries.specs.declared.said.EdOpinion.TheVariants as opinion
 use Rattle.descriptor_laws.specs.ReadRanges.{IsShortRest}
-use Rattle.flag_rules.specs.Names.{name_table, names_of}
-use Rattle.flag_rules.specs.declared.flags.Flags.{Flags}
+use Rattle.flag_rules.specs.{Names.{name_table, names_of}, declared.flags.Flags.Flags}
 use Rattle.vote_terms.specs.declared.entry.EntryFacts.{EntryFacts}
 use Rattle.vote_text.specs.Entries.{line_of}
 use Rattle.vote_maker.specs.Entries.{version_of_platform, version_of_words}
-use Rattle.range_laws.proofs.KeptEntries.{count_map}
-use Rattle.vote_laws.proofs.FlagSets.{All-as_set}
-use Rattle.range_laws.proofs.ReadNames.{count_of_set}
-use Rattle.range_laws.proofs.TextSizes.{IsAtMost, address_short, join_short}
-use Rattle.vote_laws.proofs.Members.{few_pass}
+use Rattle.range_laws.proofs.{KeptEntries.count_map, ReadNames.count_of_set, TextSizes.{IsAtMost, address_short}}
+use Rattle.range_laws.proofs.TextSizes.{join_short}
+use Rattle.vote_laws.proofs.{FlagSets.All-as_set, Members.few_pass}
 
 -- ---- the relay
 

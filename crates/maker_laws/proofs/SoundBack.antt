@@ -1,21 +1,16 @@
 -- A line that has no fault further on has none nearer to the first byte.
-use Rattle.std.proofs.Common.{◌≡◌, ℕ, ◌+◌, ◌-◌, ◌≤◌, min, Bool, true, false, List, Option, Some, None}
-use Rattle.std.proofs.Common.{Result, Ok, Err, refl, sym, ap, subst, ◌∙◌, arith}
+use Rattle.std.proofs.Common.{◌≡◌, ℕ, ◌+◌, ◌-◌, ◌≤◌, min, Bool, true, false, List, Option, Some, None, Result, Ok, Err}
+use Rattle.std.proofs.{Common.{refl, sym, ap, subst, ◌∙◌, arith}, lemmas.Bool.{le-leb, ltb-false, ltb-true}}
 use Rattle.std.specs.Prelude.{nat_le, nat_lt, ◌&&◌, length, if◌then◌else◌}
-use Rattle.std.proofs.lemmas.Bool.{le-leb, ltb-false, ltb-true}
-use Rattle.item_terms.specs.declared.fault.DocFault.{DocFault}
-use Rattle.item_terms.specs.declared.fault.DocReason.TheVariants.{Keyword, ObjectTooLong, DocumentTooLong, LineTooLong}
-use Rattle.item_terms.specs.declared.fault.DocReason.TheVariants.{Unterminated}
-use Rattle.item_terms.specs.Base64Text.{is_body}
-use Rattle.item_terms.specs.Faults.{at, line_fault, max_line, max_object, nul_fault, object_line_fault, or_else}
-use Rattle.item_terms.specs.Faults.{too_long, unterminated_fault}
-use Rattle.item_terms.specs.Lines.{Line, size}
-use Rattle.item_terms.specs.Words.{begin_words, is_blank_line, is_end_line, is_keyword_line, nul_in}
-use Rattle.item_terms.specs.Steps.{Item, Object, Open, begun_object, first_object_line, item_unless, keyword_item}
+use Rattle.item_terms.specs.declared.fault.{DocFault.DocFault, DocReason.TheVariants.{Keyword, ObjectTooLong}}
+use Rattle.item_terms.specs.declared.fault.DocReason.TheVariants.{DocumentTooLong, LineTooLong, Unterminated}
+use Rattle.item_terms.specs.{Base64Text.is_body, Faults.{at, line_fault, max_line, max_object, nul_fault}}
+use Rattle.item_terms.specs.{Faults.{object_line_fault, or_else, too_long, unterminated_fault}, Lines.{Line, size}}
+use Rattle.item_terms.specs.{Words.{begin_words, is_blank_line, is_end_line, is_keyword_line, nul_in}, Steps.Item}
+use Rattle.item_terms.specs.Steps.{Object, Open, begun_object, first_object_line, item_unless, keyword_item}
 use Rattle.item_terms.specs.Steps.{keyword_line, line_item, nothing, object_lines, object_step, open_item, open_unless}
 use Rattle.item_terms.specs.Steps.{read_line, starts_dash, step, step_unless}
-use Rattle.grammar_laws.specs.Moved.{moved_item, moved_object, moved_open}
-use Rattle.grammar_laws.proofs.MovedFaults.{none_of, short}
+use Rattle.grammar_laws.{specs.Moved.{moved_item, moved_object, moved_open}, proofs.MovedFaults.{none_of, short}}
 use Rattle.grammar_laws.proofs.MovedLines.{after_line, object_made}
 
 -- ---- faults of a line

@@ -1,41 +1,25 @@
 -- What stands in the section of a station is said by an item whose line is no longer than a line may be, with its
 -- keyword.
-use Rattle.std.proofs.Common.{◌≡◌, ℕ, Bool, true, false, List, [], ◌∷◌, ◌++◌, Some, None, Result, Ok, refl, sym}
-use Rattle.std.proofs.Common.{Option, subst, ◌∙◌, inl, inr}
-use Rattle.std.specs.Prelude.{IfSome, if◌then◌else◌}
+use Rattle.std.proofs.Common.{◌≡◌, ℕ, Bool, true, false, List, [], ◌∷◌, ◌++◌, Some, None, Result, Ok, refl, sym, Option}
+use Rattle.std.{proofs.Common.{subst, ◌∙◌, inl, inr}, specs.Prelude.{IfSome, if◌then◌else◌}}
 use Rattle.item_terms.specs.Items.{Item}
-use Rattle.frame_terms.specs.declared.keyword.Keyword.{Keyword}
-use Rattle.frame_terms.specs.declared.row.Row.{Row}
-use Rattle.frame_terms.specs.Keywords.{same, text_of}
-use Rattle.frame_terms.specs.Order.{inner}
+use Rattle.frame_terms.specs.{declared.{keyword.Keyword.Keyword, row.Row.Row}, Keywords.{same, text_of}, Order.inner}
 use Rattle.frame_terms.specs.Sections.{row_of}
-use Rattle.frame_values.specs.Faults.{at_place, unless_fault}
-use Rattle.frame_values.specs.Lines.{rest_of, rest_unless}
-use Rattle.frame_values.specs.Values.{item_at}
-use Rattle.frame_values.specs.declared.found.Span.{Span}
-use Rattle.frame_values.specs.declared.values.Value.{Value}
+use Rattle.frame_values.specs.{Faults.{at_place, unless_fault}, Lines.{rest_of, rest_unless}, Values.item_at}
+use Rattle.frame_values.specs.{declared.{found.Span.Span, values.Value.Value}, Arguments.{arguments_of, next}}
 use Rattle.frame_values.specs.declared.values.Value.TheVariants as value
-use Rattle.frame_values.specs.Arguments.{arguments_of, next}
-use Rattle.frame_laws.proofs.KnownWords.{same-sym}
-use Rattle.list_values.specs.Params.{wrong_param}
-use Rattle.list_values.specs.Protocols.{wrong_protocol}
-use Rattle.list_values.specs.VersionLists.{wrong_version_list}
-use Rattle.frame_laws.proofs.StandingParts.{rest_part}
+use Rattle.frame_laws.proofs.{KnownWords.same-sym, StandingParts.rest_part}
+use Rattle.list_values.specs.{Params.wrong_param, Protocols.wrong_protocol, VersionLists.wrong_version_list}
 use Rattle.document_laws.specs.Items.{AreItemsIn, IsItemIn}
 use Rattle.range_laws.proofs.ValueTexts.{TextIs}
-use Rattle.row_laws.proofs.ItemArguments.{IsSound}
-use Rattle.row_laws.proofs.ReadSteps.{no_fault}
-use Rattle.row_laws.proofs.Saying.{EachSound, by_own_row, sound_parts}
+use Rattle.row_laws.proofs.{ItemArguments.IsSound, ReadSteps.no_fault, Saying.{EachSound, by_own_row, sound_parts}}
 use Rattle.vote_laws.proofs.KeywordTexts.{text_as}
-use Rattle.station_input.specs.Tables.{over_limit, station_tables, value_at}
-use Rattle.station_input.specs.declared.across.Across.{Across}
-use Rattle.station_input.specs.declared.frame.StationKind.{StationKind}
-use Rattle.station_input.specs.declared.frame.StationKind.TheVariants as kind
-use Rattle.station_input.specs.declared.frame.StationSection.{StationSection}
-use Rattle.station_input.specs.declared.frame.StationSection.TheVariants as its
+use Rattle.station_input.specs.{Tables.{over_limit, station_tables, value_at}, declared.across.Across.Across}
+use Rattle.station_input.specs.declared.frame.{StationKind.StationKind, StationSection.StationSection}
 use Rattle.station_input.specs.declared.frame_said.StationValue.{StationValue}
-use Rattle.station_laws.proofs.KeptLines.{only_certificate}
-use Rattle.station_laws.proofs.NamedOnce.{StationTaken}
+use Rattle.station_input.specs.declared.frame.StationKind.TheVariants as kind
+use Rattle.station_input.specs.declared.frame.StationSection.TheVariants as its
+use Rattle.station_laws.proofs.KeptLines.{StationTaken, only_certificate}
 use Rattle.maker_laws.proofs.ItemLines.{EachShort, FitsLine, IsShortItem}
 
 -- ---- items that stand there

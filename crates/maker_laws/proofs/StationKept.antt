@@ -1,52 +1,33 @@
 -- What is read of a station input is in range.
-use Rattle.std.proofs.Common.{◌≡◌, ℕ, List, [], ◌∷◌, length, Option, Some, None, refl, sym, subst}
-use Rattle.std.proofs.Common.{Result, Ok, Err, inl, inr}
-use Rattle.std.specs.Prelude.{All, IfSome, option_map}
-use Rattle.std.proofs.lemmas.List.Elements.{All-head, All-tail}
+use Rattle.std.proofs.Common.{◌≡◌, ℕ, List, [], ◌∷◌, length, Option, Some, None, refl, sym, subst, Result, Ok, Err, inl}
+use Rattle.std.{proofs.{Common.inr, lemmas.List.Elements.{All-head, All-tail}}, specs.Prelude.{All, IfSome, option_map}}
 use Rattle.base64.specs.GeneralPurpose.{IsBytes}
 use Rattle.count_terms.specs.declared.newest.Newest.{Newest}
 use Rattle.item_terms.specs.Items.{Item, items_of}
 use Rattle.dirdoc_grammar.specs.Writing.{IsLineRest}
-use Rattle.frame_terms.specs.Documents.{Document, document_of, finish, group}
-use Rattle.frame_terms.specs.Keywords.{same}
+use Rattle.frame_terms.specs.{Documents.{Document, document_of, finish, group}, Keywords.same}
 use Rattle.frame_terms.specs.declared.fault.ReadRefusal.{ReadRefusal}
 use Rattle.frame_terms.specs.declared.keyword.Keyword.TheVariants as the
-use Rattle.frame_values.specs.Parts.{part}
-use Rattle.frame_values.specs.Values.{item_at, text_if}
-use Rattle.frame_values.specs.declared.found.Span.{Span}
-use Rattle.frame_values.specs.declared.values.Value.{Value}
+use Rattle.frame_values.specs.{Parts.part, Values.{item_at, text_if}, declared.{found.Span.Span, values.Value.Value}}
 use Rattle.value_groups.specs.Listed.{params_in}
-use Rattle.authority_certs.specs.Certs.{cert_in}
-use Rattle.authority_certs.specs.Heads.{head_of, no_head}
-use Rattle.authority_certs.specs.declared.head.CertHead.{CertHead}
+use Rattle.authority_certs.specs.{Certs.cert_in, Heads.{head_of, no_head}, declared.head.CertHead.CertHead}
 use Rattle.certificate_laws.specs.Again.{SaysInRange}
-use Rattle.document_laws.specs.Counts.{RowsStand}
-use Rattle.document_laws.specs.Items.{AreItemsIn}
-use Rattle.document_laws.proofs.Counting.{stand_as_often}
-use Rattle.document_laws.proofs.Taking.{are_said}
+use Rattle.document_laws.{specs.{Counts.RowsStand, Items.AreItemsIn}, proofs.{Counting.stand_as_often, Taking.are_said}}
 use Rattle.vote_laws.specs.Again.{AreListsInRange, AreVoteParams}
-use Rattle.range_laws.proofs.CertRanges.{has_bytes, nothing_says, section_says}
-use Rattle.range_laws.proofs.KeptFacts.{params_few, protocols_at, versions_at}
-use Rattle.range_laws.proofs.LineReads.{IsSourceIn}
-use Rattle.row_laws.proofs.Saying.{EachSound, all_sound, each_stands}
-use Rattle.range_laws.proofs.VoteReads.{AreFew}
-use Rattle.station_input.specs.Tables.{station_tables}
+use Rattle.range_laws.proofs.{CertRanges.{has_bytes, nothing_says, section_says}, KeptFacts.{params_few, protocols_at}}
+use Rattle.range_laws.proofs.{KeptFacts.versions_at, LineReads.IsSourceIn, VoteReads.AreFew}
+use Rattle.row_laws.proofs.{Saying.{EachSound, all_sound, each_stands, EachStands}, KindRanges.{field_is, once_there}}
+use Rattle.station_input.specs.{Tables.station_tables, declared.frame.StationSection.StationSection}
+use Rattle.station_input.specs.{declared.frame_said.StationValue.StationValue, Kept.{kept_with, none_kept}}
+use Rattle.station_input.specs.{Reading.{max_station, with_facts}, Saying.{measured_in, source_in}, Facts.facts_of}
 use Rattle.station_input.specs.declared.frame.StationKind.TheVariants as kind
-use Rattle.station_input.specs.declared.frame.StationSection.{StationSection}
 use Rattle.station_input.specs.declared.frame.StationSection.TheVariants as its
-use Rattle.station_input.specs.declared.frame_said.StationValue.{StationValue}
-use Rattle.station_input.specs.Kept.{kept_with, none_kept}
 use Rattle.vote_terms.specs.ListLines.{lists_in, vote_lists}
-use Rattle.station_input.specs.Reading.{max_station, with_facts}
-use Rattle.station_input.specs.Saying.{measured_in, source_in}
-use Rattle.station_laws.proofs.KeptLines.{AreSections, facts_in, groups_are, same_facts, sections_are}
-use Rattle.station_laws.proofs.NamedOnce.{StationGroup, StationTaken}
+use Rattle.station_laws.proofs.KeptLines.{AreSections, StationGroup, StationTaken, facts_in, groups_are, same_facts}
+use Rattle.station_laws.proofs.KeptLines.{sections_are}
 use Rattle.maker_laws.specs.Ranges.{HasKeyBytes, IsMeasuredInRange, IsStationInRange, StationsReadAreInRange}
-use Rattle.station_input.specs.Facts.{facts_of}
-use Rattle.row_laws.proofs.KindRanges.{field_is, once_there}
-use Rattle.row_laws.proofs.Saying.{EachStands}
-use Rattle.maker_laws.proofs.StationStands.{certificates, measured_ranged, never_station}
-use Rattle.maker_laws.proofs.StationReads.{params_are, rest_is, source_is}
+use Rattle.maker_laws.proofs.{StationStands.{certificates, measured_ranged, never_station}, StationReads.params_are}
+use Rattle.maker_laws.proofs.StationReads.{rest_is, source_is}
 
 -- ---- lists
 

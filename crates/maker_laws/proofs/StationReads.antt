@@ -1,56 +1,49 @@
 -- What the items of a station input say is in range, by the kinds of their rows.
-use Rattle.std.proofs.Common.{◌≡◌, ℕ, ◌≤◌, Bool, true, false, List, Option, Some, None, Result, Ok, Err, refl}
-use Rattle.std.proofs.Common.{subst}
-use Rattle.std.specs.Prelude.{IfSome, option_map, if◌then◌else◌}
+use Rattle.std.proofs.Common.{◌≡◌, ℕ, ◌≤◌, Bool, true, false, List, Option, Some, None, Result, Ok, Err, refl, subst}
+use Rattle.std.{proofs.Common.sym, specs.Prelude.{IfSome, option_map, if◌then◌else◌}}
 use Rattle.item_terms.specs.Items.{Item}
-use Rattle.dir_values.specs.Arguments.{Argument}
-use Rattle.dir_values.specs.Numbers.{number_of}
-use Rattle.dir_values.specs.declared.digest.Fingerprint.{Fingerprint}
+use Rattle.dir_values.specs.{Arguments.Argument, Numbers.number_of, declared.digest.Fingerprint.Fingerprint}
 use Rattle.dirdoc_grammar.specs.Writing.{IsLineRest}
 use Rattle.frame_terms.specs.declared.row.Limit.TheVariants as limit
-use Rattle.frame_values.specs.Arguments.{arguments_of, field, front, next, others}
-use Rattle.frame_values.specs.Lines.{source_of}
-use Rattle.frame_values.specs.declared.found.Span.{Span}
-use Rattle.frame_values.specs.declared.found.DirSource.{DirSource}
-use Rattle.frame_values.specs.declared.values.Value.{Value}
+use Rattle.frame_values.specs.{Arguments.{arguments_of, field, front, next, others}, Lines.{source_of, rest_of}}
+use Rattle.frame_values.specs.{declared.{found.{Span.Span, DirSource.DirSource}, values.Value.Value}, Faults.too_many}
+use Rattle.frame_values.specs.Parts.{part}
 use Rattle.frame_values.specs.declared.values.Value.TheVariants as value
 use Rattle.value_groups.specs.ListLines.{params_of}
 use Rattle.list_values.specs.Params.{wrong_param}
 use Rattle.authority_certs.specs.declared.frame.CertKind.TheVariants as cert
-use Rattle.station_input.specs.Fields.{Identities, bandwidth, is_dash, long_number, new_identity}
-use Rattle.station_input.specs.Lines.{measured_of, own_of}
-use Rattle.station_input.specs.Sources.{fits_line}
-use Rattle.station_input.specs.Tables.{over_limit, station_tables, value_at}
-use Rattle.station_input.specs.declared.across.Across.{Across}
-use Rattle.station_input.specs.declared.frame.StationKind.{StationKind}
-use Rattle.station_input.specs.declared.frame.StationKind.TheVariants as kind
-use Rattle.station_input.specs.declared.frame_said.MeasuredRelay.{MeasuredRelay}
-use Rattle.station_input.specs.declared.frame_said.StationValue.{StationValue}
-use Rattle.station_input.specs.declared.frame_said.StationValue.TheVariants as own
+use Rattle.station_input.specs.{Fields.{Identities, bandwidth, is_dash, long_number, new_identity}, Lines.measured_of}
+use Rattle.station_input.specs.{Lines.own_of, Sources.fits_line, Tables.{over_limit, station_tables, value_at}}
+use Rattle.station_input.specs.declared.{across.Across.Across, frame.StationKind.StationKind}
+use Rattle.station_input.specs.declared.frame_said.{MeasuredRelay.MeasuredRelay, StationValue.StationValue}
 use Rattle.station_input.specs.Saying.{measured_if}
-use Rattle.row_laws.proofs.ItemArguments.{IsSound}
-use Rattle.range_laws.proofs.LineReads.{IsSourceIn, few_words, source_reads}
-use Rattle.row_laws.proofs.ReadSteps.{ReadAs, any_reads, field_reads, if_reads, next_reads, no_fault, number_within}
-use Rattle.row_laws.proofs.ReadSteps.{was_read}
-use Rattle.row_laws.proofs.SaidByKinds.{said_of_any}
-use Rattle.row_laws.proofs.Saying.{Says}
-use Rattle.range_laws.proofs.VoteReads.{AreFew}
-use Rattle.station_laws.proofs.NewLines.{measured_made}
+use Rattle.station_input.specs.declared.frame.StationKind.TheVariants as kind
+use Rattle.station_input.specs.declared.frame_said.StationValue.TheVariants as own
+use Rattle.row_laws.proofs.{ItemArguments.IsSound, ReadSteps.{ReadAs, any_reads, field_reads, if_reads, next_reads}}
+use Rattle.row_laws.proofs.{ReadSteps.{no_fault, number_within, was_read, rest_reads}, SaidByKinds.said_of_any}
+use Rattle.row_laws.proofs.{Saying.Says, KindRanges.{KindIs, kind_read, kind_unless}}
+use Rattle.range_laws.proofs.{LineReads.{IsSourceIn, few_words, source_reads, rest_read}, VoteReads.AreFew}
 use Rattle.maker_laws.specs.Ranges.{IsMeasuredInRange}
-use Rattle.frame_values.specs.Faults.{too_many}
-use Rattle.frame_values.specs.Lines.{rest_of}
-use Rattle.frame_values.specs.Parts.{part}
 use Rattle.frame_laws.proofs.StandingParts.{rest_part}
-use Rattle.std.proofs.Common.{sym}
-use Rattle.row_laws.proofs.KindRanges.{KindIs, kind_read, kind_unless}
-use Rattle.row_laws.proofs.ReadSteps.{rest_reads}
-use Rattle.range_laws.proofs.LineReads.{rest_read}
 
 -- ---- values
 
 -- what was measured of a relay, where a value says that
 abbrev pub MeasuredIs : Value StationValue → Type 0
 MeasuredIs v = IfSome (measured_if v) IsMeasuredInRange
+
+-- a relay that was measured
+abbrev measured_made : Fingerprint → ℕ → ℕ → ℕ → ℕ → Option ℕ → Result MeasuredRelay ℕ
+measured_made identity reached_at wmtbf wfu_ppm known_for kb = Ok (record {
+  identity = identity;
+  measured = record {
+    reached_at = reached_at;
+    wmtbf = wmtbf;
+    wfu_ppm = wfu_ppm;
+    known_for = known_for;
+    kb = kb;
+  };
+})
 
 -- ---- what items say
 

@@ -1,27 +1,19 @@
 -- What stands in the section of a station, and in the certificate's inside it.
-use Rattle.std.proofs.Common.{◌≡◌, ℕ, true, List, [], ◌∷◌, Option, Some, None, refl}
-use Rattle.std.specs.Prelude.{All, IfSome, is_some}
-use Rattle.std.proofs.lemmas.List.Elements.{All-cons, All-nil}
-use Rattle.frame_terms.specs.declared.keyword.Keyword.{Keyword}
+use Rattle.std.proofs.{Common.{◌≡◌, ℕ, true, List, [], ◌∷◌, Option, Some, None, refl}, lemmas.List.Elements.All-cons}
+use Rattle.std.{proofs.lemmas.List.Elements.All-nil, specs.Prelude.{All, IfSome, is_some}}
+use Rattle.frame_terms.specs.{declared.keyword.Keyword.Keyword, Keywords.same, Order.inner}
 use Rattle.frame_terms.specs.declared.keyword.Keyword.TheVariants as the
-use Rattle.frame_terms.specs.Keywords.{same}
-use Rattle.frame_terms.specs.Order.{inner}
 use Rattle.frame_values.specs.Values.{item_at}
 use Rattle.document_laws.specs.Counts.{RowsStand}
-use Rattle.row_laws.proofs.KindRanges.{IsNotInside, once_there}
-use Rattle.row_laws.proofs.Saying.{EachStands}
-use Rattle.range_laws.proofs.CertRanges.{HaveCertificates}
-use Rattle.range_laws.proofs.VoteStands.{any_says}
-use Rattle.station_input.specs.Tables.{station_tables}
+use Rattle.row_laws.proofs.{KindRanges.{IsNotInside, once_there}, Saying.EachStands}
+use Rattle.range_laws.proofs.{CertRanges.HaveCertificates, VoteStands.any_says}
+use Rattle.station_input.specs.{Tables.station_tables, declared.frame.StationSection.StationSection}
+use Rattle.station_input.specs.{declared.frame_said.MeasuredRelay.MeasuredRelay, Saying.{measured_if, measured_in}}
+use Rattle.station_input.specs.Saying.{onto_if}
 use Rattle.station_input.specs.declared.frame.StationKind.TheVariants as kind
-use Rattle.station_input.specs.declared.frame.StationSection.{StationSection}
 use Rattle.station_input.specs.declared.frame.StationSection.TheVariants as its
-use Rattle.station_input.specs.declared.frame_said.MeasuredRelay.{MeasuredRelay}
-use Rattle.station_input.specs.Saying.{measured_if, measured_in, onto_if}
-use Rattle.maker_laws.specs.Ranges.{IsMeasuredInRange}
-use Rattle.station_laws.proofs.KeptLines.{only_certificate}
-use Rattle.station_laws.proofs.NamedOnce.{StationTaken}
-use Rattle.maker_laws.proofs.StationReads.{measured_says}
+use Rattle.maker_laws.{specs.Ranges.IsMeasuredInRange, proofs.StationReads.measured_says}
+use Rattle.station_laws.proofs.KeptLines.{StationTaken, only_certificate}
 
 -- ---- a section inside another
 

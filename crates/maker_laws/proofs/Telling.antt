@@ -1,15 +1,11 @@
 -- What was measured of the relay of each entry.
-use Rattle.std.proofs.Common.{◌≡◌, ℕ, List, [], ◌∷◌, All, refl, ap, ◌∙◌}
-use Rattle.std.proofs.lemmas.List.Elements.{All-nil, All-cons, All-filter, All-map, All-weaker}
+use Rattle.std.proofs.{Common.{◌≡◌, ℕ, List, [], ◌∷◌, All, refl, ap, ◌∙◌}, lemmas.List.Elements.{All-nil, All-cons}}
+use Rattle.std.proofs.lemmas.List.Elements.{All-filter, All-map, All-weaker}
 use Rattle.count_terms.specs.declared.newest.Newest.{Newest}
 use Rattle.dir_values.specs.declared.digest.Fingerprint.{Fingerprint}
 use Rattle.descriptor_doc.specs.declared.descriptor.Descriptor.{Descriptor}
-use Rattle.flag_rules.specs.Flags.{flags_of}
-use Rattle.flag_rules.specs.Relays.{ruled_relays}
-use Rattle.flag_rules.specs.declared.flags.Flags.{Flags}
-use Rattle.flag_rules.specs.declared.relay.Measured.{Measured}
-use Rattle.flag_rules.specs.declared.relay.RelayFacts.{RelayFacts}
-use Rattle.flag_rules.specs.declared.ruling.Ruling.{Ruling}
+use Rattle.flag_rules.specs.{Flags.flags_of, Relays.ruled_relays, declared.{flags.Flags.Flags, relay.Measured.Measured}}
+use Rattle.flag_rules.specs.declared.{relay.RelayFacts.RelayFacts, ruling.Ruling.Ruling}
 use Rattle.station_input.specs.declared.frame_said.MeasuredRelay.{MeasuredRelay}
 use Rattle.vote_maker.specs.Listings.{JudgedRelay, entry_of_judged, has_entry, judged_relays, listed_relays}
 use Rattle.vote_maker.specs.Relays.{known_of, known_relays}

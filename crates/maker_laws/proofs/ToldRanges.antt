@@ -1,13 +1,10 @@
 -- What was measured is in range, with the bandwidths of a bandwidth file.
-use Rattle.std.proofs.Common.{ℕ, List, [], ◌∷◌}
+use Rattle.std.proofs.{Common.{ℕ, List, [], ◌∷◌}, lemmas.List.Elements.{All-append, All-cons, All-map, All-nil}}
 use Rattle.std.specs.Prelude.{All, map}
-use Rattle.std.proofs.lemmas.List.Elements.{All-append, All-cons, All-map, All-nil}
-use Rattle.bandwidth_file.specs.declared.file.BandFile.{BandFile}
-use Rattle.bandwidth_file.specs.Files.{IsBandFile}
+use Rattle.bandwidth_file.specs.{declared.file.BandFile.BandFile, Files.IsBandFile}
 use Rattle.station_input.specs.declared.frame_said.MeasuredRelay.{MeasuredRelay}
-use Rattle.maker_laws.specs.Ranges.{IsMeasuredInRange}
+use Rattle.maker_laws.{specs.Ranges.IsMeasuredInRange, proofs.FileRanges.{given_is, relays_are}}
 use Rattle.station_commands.specs.MeasuredTold.{row_relay, told_relay, told_relays}
-use Rattle.maker_laws.proofs.FileRanges.{given_is, relays_are}
 
 -- of the relays that were measured before
 each_told : (content : List ℕ) (file : BandFile) → IsBandFile content file → (before : List MeasuredRelay)

@@ -4,8 +4,7 @@ use Rattle.vote_frame.specs.Tables.{vote_tables}
 use Rattle.vote_frame.specs.declared.frame.VoteSection.TheVariants as section
 use Rattle.certificate_laws.specs.Given.{IsGiven}
 use Rattle.count_terms.specs.declared.newest.Newest.{Newest}
-use Rattle.station_input.specs.Reading.{station_of}
-use Rattle.station_input.specs.declared.facts.StationFacts.{StationFacts}
+use Rattle.station_input.specs.{Reading.station_of, declared.facts.StationFacts.StationFacts}
 
 -- The bytes of the certificate that is read of a station input are one certificate alone, from their first byte to
 -- their

@@ -3,22 +3,18 @@
 use Rattle.std.specs.Prelude.{◌≡◌, ℕ, ◌+◌, ◌≤◌, ◌<◌, ◌^◌, List, ◌++◌, length, All, Ok}
 use Rattle.base64.specs.GeneralPurpose.{IsBytes}
 use Rattle.dir_bytes.specs.Causes.{last_moment}
-use Rattle.bandwidth_file.specs.Files.{IsBandFile}
-use Rattle.bandwidth_file.specs.declared.file.BandFile.{BandFile}
+use Rattle.bandwidth_file.specs.{Files.IsBandFile, declared.file.BandFile.BandFile}
 use Rattle.flag_rules.specs.declared.ruling.Ruling.{Ruling}
 use Rattle.count_terms.specs.declared.newest.Newest.{Newest}
-use Rattle.station_input.specs.Reading.{station_of}
-use Rattle.station_input.specs.declared.facts.StationFacts.{StationFacts}
+use Rattle.station_input.specs.{Reading.station_of, declared.facts.StationFacts.StationFacts}
 use Rattle.vote_terms.specs.Votes.{ReadVote, max_vote}
 use Rattle.vote_doc.specs.Reading.{vote_from}
 use Rattle.vote_pool.specs.Pools.{DescriptorsAscend, most_relays}
-use Rattle.vote_schedule.specs.Moments.{valid_until}
-use Rattle.vote_schedule.specs.Schedules.{IsSchedule}
+use Rattle.vote_schedule.specs.{Moments.valid_until, Schedules.IsSchedule}
 use Rattle.vote_laws.specs.Made.{IsMadeVote}
 use Rattle.vote_maker.specs.Made.{Basis, schedule_in}
 use Rattle.station_commands.specs.MeasuredTold.{told_relays}
-use Rattle.maker_laws.specs.Given.{IsDescriptor, IsStation}
-use Rattle.maker_laws.specs.ReadAsMade.{IsSigning, signed_facts, signed_made_text}
+use Rattle.maker_laws.specs.{Given.{IsDescriptor, IsStation}, ReadAsMade.{IsSigning, signed_facts, signed_made_text}}
 
 -- What a station is given was read of an input, and what was measured has the bandwidths of a bandwidth file.
 pub record IsToldStation (station : StationFacts) : Type 0 where

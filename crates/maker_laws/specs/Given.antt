@@ -3,14 +3,11 @@ use Rattle.std.specs.Prelude.{◌≡◌, ℕ, ◌≤◌, List, length, All, Ok}
 use Rattle.base64.specs.GeneralPurpose.{IsBytes}
 use Rattle.dir_bytes.specs.Causes.{last_moment}
 use Rattle.count_terms.specs.declared.newest.Newest.{Newest}
-use Rattle.descriptor_doc.specs.Reading.{descriptor_under}
-use Rattle.descriptor_doc.specs.declared.descriptor.Descriptor.{Descriptor}
-use Rattle.station_input.specs.Reading.{station_of}
-use Rattle.station_input.specs.declared.facts.StationFacts.{StationFacts}
+use Rattle.descriptor_doc.specs.{Reading.descriptor_under, declared.descriptor.Descriptor.Descriptor}
+use Rattle.station_input.specs.{Reading.station_of, declared.facts.StationFacts.StationFacts}
 use Rattle.maker_laws.specs.Ranges.{IsMeasuredInRange}
 use Rattle.vote_pool.specs.Pools.{DescriptorsAscend, most_relays}
-use Rattle.vote_schedule.specs.Moments.{valid_until}
-use Rattle.vote_schedule.specs.Schedules.{IsSchedule}
+use Rattle.vote_schedule.specs.{Moments.valid_until, Schedules.IsSchedule}
 use Rattle.vote_maker.specs.Made.{Basis, schedule_in}
 
 -- What a station is given was read of an input, but for what was measured of relays, which a bandwidth file may tell

@@ -6,11 +6,9 @@ use Rattle.dirdoc_grammar.specs.Writing.{NewItem, keyword_text}
 use Rattle.frame_terms.specs.declared.keyword.Keyword.TheVariants as the
 use Rattle.frame_values.specs.Items.{bare, item_if}
 use Rattle.count_terms.specs.declared.newest.Newest.{Newest}
-use Rattle.station_input.specs.Reading.{station_of}
-use Rattle.station_input.specs.declared.facts.StationFacts.{StationFacts}
+use Rattle.station_input.specs.{Reading.station_of, declared.facts.StationFacts.StationFacts}
 use Rattle.vote_terms.specs.declared.facts.VoteFacts.{VoteFacts}
-use Rattle.vote_text.specs.Lists.{param_items, protocol_items, version_items}
-use Rattle.vote_text.specs.Texts.{source_text}
+use Rattle.vote_text.specs.{Lists.{param_items, protocol_items, version_items}, Texts.source_text}
 
 -- the line of an item is no longer than a line may be, with its NL
 abbrev pub HasShortLine : NewItem → Type 0

@@ -2,15 +2,13 @@
 use Rattle.std.specs.Prelude.{◌≡◌, ℕ, ◌≤◌, ◌<◌, ◌^◌, true, List, All, IfSome, Ok}
 use Rattle.base64.specs.GeneralPurpose.{IsBytes}
 use Rattle.dir_values.specs.Names.{is_nickname}
-use Rattle.dirdoc_grammar.specs.Writers.{is_argument}
-use Rattle.dirdoc_grammar.specs.Writing.{IsLineRest}
+use Rattle.dirdoc_grammar.specs.{Writers.is_argument, Writing.IsLineRest}
 use Rattle.frame_values.specs.Ranges.{AreTwenty}
 use Rattle.authority_certs.specs.declared.cert.Cert.{Cert}
 use Rattle.certificate_laws.specs.Again.{SaysInRange}
-use Rattle.station_input.specs.declared.frame_said.MeasuredRelay.{MeasuredRelay}
-use Rattle.count_terms.specs.declared.newest.Newest.{Newest}
+use Rattle.station_input.specs.declared.{frame_said.MeasuredRelay.MeasuredRelay, facts.StationFacts.StationFacts}
 use Rattle.station_input.specs.Reading.{station_of}
-use Rattle.station_input.specs.declared.facts.StationFacts.{StationFacts}
+use Rattle.count_terms.specs.declared.newest.Newest.{Newest}
 use Rattle.vote_laws.specs.Again.{AreListsInRange}
 
 -- where a bandwidth was measured of a relay it has 32 bits

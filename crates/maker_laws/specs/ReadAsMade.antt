@@ -4,14 +4,11 @@ use Rattle.base64.specs.GeneralPurpose.{IsBytes}
 use Rattle.grammar_laws.specs.Written.{IsItem}
 use Rattle.key_port.specs.Signing.{signature_limit}
 use Rattle.flag_rules.specs.declared.ruling.Ruling.{Ruling}
-use Rattle.vote_terms.specs.Votes.{ReadVote, max_vote}
-use Rattle.vote_terms.specs.declared.facts.VoteFacts.{VoteFacts}
-use Rattle.vote_text.specs.Entries.{entries_items}
-use Rattle.vote_text.specs.Made.{made_text}
-use Rattle.vote_text.specs.Texts.{authority_items, footer_items, preamble_items}
+use Rattle.vote_terms.specs.{Votes.{ReadVote, max_vote}, declared.facts.VoteFacts.VoteFacts}
+use Rattle.vote_text.specs.{Entries.entries_items, Made.made_text, Texts.{authority_items, footer_items}}
+use Rattle.vote_text.specs.Texts.{preamble_items}
 use Rattle.vote_doc.specs.Reading.{vote_from}
-use Rattle.vote_laws.specs.Again.{HasValuesInRange}
-use Rattle.vote_laws.specs.Made.{IsMadeVote}
+use Rattle.vote_laws.specs.{Again.HasValuesInRange, Made.IsMadeVote}
 use Rattle.vote_maker.specs.Made.{Basis, made, with_signature}
 use Rattle.maker_laws.specs.Given.{IsBasis}
 

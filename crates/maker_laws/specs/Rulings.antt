@@ -2,10 +2,8 @@
 use Rattle.std.specs.Prelude.{◌≡◌, ℕ, true, false, List, All, Some, slice_get}
 use Rattle.dir_values.specs.Digests.{same_identity}
 use Rattle.descriptor_doc.specs.declared.descriptor.Descriptor.{Descriptor}
-use Rattle.flag_rules.specs.Rules.{AreAllowed, list_allows}
-use Rattle.flag_rules.specs.Rulings.{is_reject}
-use Rattle.flag_rules.specs.declared.operator.OperatorRule.{OperatorRule}
-use Rattle.flag_rules.specs.declared.ruling.Ruling.{Ruling}
+use Rattle.flag_rules.specs.{Rules.{AreAllowed, list_allows}, Rulings.is_reject}
+use Rattle.flag_rules.specs.declared.{operator.OperatorRule.OperatorRule, ruling.Ruling.Ruling}
 use Rattle.vote_pool.specs.Pools.{DescriptorsAscend}
 use Rattle.vote_terms.specs.declared.entry.EntryFacts.{EntryFacts}
 use Rattle.vote_maker.specs.Made.{Basis, made, relays_in}

@@ -1,6 +1,5 @@
 // What holds of votes that are made.
-ghost use Rattle.maker_laws.specs.Given.{StationsReadAreStations};
-ghost use Rattle.maker_laws.specs.ReadAsMade.{MadeAreInRange, MadeVotesReadAsMade};
+ghost use Rattle.maker_laws.specs.{Given.StationsReadAreStations, ReadAsMade.{MadeAreInRange, MadeVotesReadAsMade}};
 ghost use Rattle.maker_laws.specs.Rulings.{OperatorsMakeOneVote, RejectedRelaysHaveNoEntry};
 
 /// A law: what is read of a station input is what a station of a vote may be given.

@@ -1,14 +1,9 @@
 -- The microdescriptor that is read.
 use Rattle.std.proofs.Common.{◌≡◌, ℕ, List, length, Ok, Result, sym, ap, ◌∙◌}
 use Rattle.item_terms.specs.Items.{Contents, items_of}
-use Rattle.frame_terms.specs.declared.fault.ReadRefusal.{ReadRefusal}
-use Rattle.frame_terms.specs.Documents.{document_of, finish}
-use Rattle.micro_desc.specs.Tables.{micro_tables}
-use Rattle.micro_desc.specs.declared.micro.Micro.{Micro}
-use Rattle.micro_desc.specs.declared.head.MicroHead.{MicroHead}
-use Rattle.micro_desc.specs.Heads.{no_head, head_with}
-use Rattle.micro_desc.specs.Micros.{micro_in}
-use Rattle.micro_desc.specs.Reading.{micro_of, max_micro, with_micro}
+use Rattle.frame_terms.specs.{declared.fault.ReadRefusal.ReadRefusal, Documents.{document_of, finish}}
+use Rattle.micro_desc.specs.{Tables.micro_tables, declared.{micro.Micro.Micro, head.MicroHead.MicroHead}, Heads.no_head}
+use Rattle.micro_desc.specs.{Heads.head_with, Micros.micro_in, Reading.{micro_of, max_micro, with_micro}}
 
 abbrev kept_of : MicroHead → Contents → List ℕ → Result (MicroHead × ℕ) ReadRefusal
 kept_of start items bytes = finish head_with start (document_of micro_tables (length bytes) items)

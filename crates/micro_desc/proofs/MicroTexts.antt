@@ -2,10 +2,9 @@
 use Rattle.std.proofs.Common.{◌≡◌, ◌∙◌, ℕ, List, ◌++◌, ap}
 use Rattle.dirdoc_grammar.specs.Writing.{item_text, items_text}
 use Rattle.frame_terms.specs.declared.keyword.Keyword.TheVariants as the
-use Rattle.frame_values.proofs.ItemsTexts.{sections}
-use Rattle.micro_desc.specs.declared.micro.Micro.{Micro}
-use Rattle.frame_values.specs.Items.{item_if}
-use Rattle.micro_desc.specs.Texts.{onion_key_item, ntor_key_items, family_items, id_items, micro_text}
+use Rattle.frame_values.{proofs.ItemsTexts.sections, specs.Items.item_if}
+use Rattle.micro_desc.specs.{declared.micro.Micro.Micro, Texts.{onion_key_item, ntor_key_items, family_items, id_items}}
+use Rattle.micro_desc.specs.Texts.{micro_text}
 
 -- the parts behind the first
 pub parts : (micro : Micro)

@@ -2,13 +2,9 @@
 use Rattle.std.specs.Prelude.{ℕ, List, [], Option, Some, None}
 use Rattle.frame_terms.specs.declared.keyword.Keyword.TheVariants as the
 use Rattle.frame_terms.specs.declared.document.Taken.{Taken}
-use Rattle.frame_values.specs.declared.found.Span.{Span}
-use Rattle.frame_values.specs.declared.values.Value.{Value}
-use Rattle.frame_values.specs.Values.{item_at, own_in, text_if}
-use Rattle.micro_desc.specs.declared.said.MicroId.{MicroId}
-use Rattle.micro_desc.specs.declared.said.MicroValue.{MicroValue}
+use Rattle.frame_values.specs.{declared.{found.Span.Span, values.Value.Value}, Values.{item_at, own_in, text_if}}
+use Rattle.micro_desc.specs.declared.{said.{MicroId.MicroId, MicroValue.MicroValue}, head.MicroHead.MicroHead}
 use Rattle.micro_desc.specs.declared.said.MicroValue.TheVariants as own
-use Rattle.micro_desc.specs.declared.head.MicroHead.{MicroHead}
 
 -- an item, if there is one
 abbrev pub ItemIf : Type 0

@@ -1,23 +1,14 @@
 -- What the items of a microdescriptor say, or the place of what is wrong: their arguments from left to right (dir-spec,
 -- "Computing microdescriptors").
-use Rattle.std.specs.Prelude.{ℕ, true, Option, Result, Ok, Err, codes, if◌then◌else◌}
-use Rattle.std.specs.Result.{result_ok}
-use Rattle.std.specs.Str.{bytes_eq}
+use Rattle.std.specs.{Prelude.{ℕ, true, Option, Result, Ok, Err, codes, if◌then◌else◌}, Result.result_ok, Str.bytes_eq}
 use Rattle.item_terms.specs.Items.{Item}
-use Rattle.frame_values.specs.declared.found.Span.{Span}
-use Rattle.frame_values.specs.declared.values.Value.{Value}
+use Rattle.frame_values.specs.{declared.{found.Span.Span, values.Value.Value}, Arguments.{arguments_of, front, others}}
+use Rattle.frame_values.specs.{Arguments.{field, next}, Lines.rest_of, Signatures.object_of}
 use Rattle.frame_values.specs.declared.values.Value.TheVariants as value
-use Rattle.frame_values.specs.Arguments.{arguments_of, front, others, field, next}
-use Rattle.frame_values.specs.Lines.{rest_of}
-use Rattle.frame_values.specs.Signatures.{object_of}
 use Rattle.relay_entries.specs.Fields.{identity}
-use Rattle.descriptor_frame.specs.Fields.{key}
-use Rattle.descriptor_frame.specs.Lines.{first_of}
-use Rattle.micro_desc.specs.declared.said.MicroId.{MicroId}
-use Rattle.micro_desc.specs.declared.said.MicroId.TheVariants.{Ed25519, Rsa1024}
-use Rattle.micro_desc.specs.declared.said.MicroKind.{MicroKind}
-use Rattle.micro_desc.specs.declared.said.MicroKind.TheVariants.{OnionKey, Key, Rest, Id}
-use Rattle.micro_desc.specs.declared.said.MicroValue.{MicroValue}
+use Rattle.descriptor_frame.specs.{Fields.key, Lines.first_of}
+use Rattle.micro_desc.specs.declared.said.{MicroId.{MicroId, TheVariants.{Ed25519, Rsa1024}}, MicroKind.MicroKind}
+use Rattle.micro_desc.specs.declared.said.{MicroKind.TheVariants.{OnionKey, Key, Rest, Id}, MicroValue.MicroValue}
 use Rattle.micro_desc.specs.declared.said.MicroValue.TheVariants as own
 
 -- where the lines of an onion key stand: those of any object, and nowhere where there is none

@@ -1,19 +1,13 @@
 -- The microdescriptor of a relay with a server descriptor and a summary of its exit policy (dir-spec, "Computing
 -- microdescriptors").
-use Rattle.std.specs.Prelude.{ℕ, ◌==◌, Bool, false, not, ◌&&◌, List, [], ◌∷◌, ◌++◌, length, map, codes}
-use Rattle.std.specs.Prelude.{Option, Some, None, option_and_then, if◌then◌else◌}
-use Rattle.std.specs.Option.{option_map}
+use Rattle.std.specs.Prelude.{ℕ, ◌==◌, Bool, false, not, ◌&&◌, List, [], ◌∷◌, ◌++◌, length, map, codes, Option, Some}
+use Rattle.std.specs.{Prelude.{None, option_and_then, if◌then◌else◌}, Option.option_map}
 use Rattle.dir_bytes.specs.FieldTexts.{base64_text}
-use Rattle.dir_values.specs.FlagSets.{as_set}
-use Rattle.dir_values.specs.Ports.{Ports, last_port, summary_text}
-use Rattle.dir_values.specs.declared.digest.Fingerprint.{Fingerprint}
-use Rattle.dir_values.specs.declared.port_range.PortRange.{PortRange}
-use Rattle.descriptor_frame.specs.declared.certificate.EdCert.{EdCert}
-use Rattle.descriptor_frame.specs.Families.{family_of, family_text}
+use Rattle.dir_values.specs.{FlagSets.as_set, Ports.{Ports, last_port, summary_text}}
+use Rattle.dir_values.specs.declared.{digest.Fingerprint.Fingerprint, port_range.PortRange.PortRange}
+use Rattle.descriptor_frame.specs.{declared.certificate.EdCert.EdCert, Families.{family_of, family_text}}
 use Rattle.descriptor_doc.specs.declared.descriptor.Descriptor.{Descriptor}
-use Rattle.micro_desc.specs.declared.said.MicroId.{MicroId}
-use Rattle.micro_desc.specs.declared.said.MicroId.TheVariants.{Ed25519, Rsa1024}
-use Rattle.micro_desc.specs.declared.micro.Micro.{Micro}
+use Rattle.micro_desc.specs.declared.{said.MicroId.{MicroId, TheVariants.{Ed25519, Rsa1024}}, micro.Micro.Micro}
 
 -- a family, where it has a name
 abbrev pub unless_empty : List (List ℕ) → Option (List (List ℕ))

@@ -1,10 +1,8 @@
 -- What a microdescriptor says of which something was kept (dir-spec, "Computing microdescriptors").
-use Rattle.std.specs.Prelude.{ℕ, List}
-use Rattle.std.specs.Option.{option_map}
+use Rattle.std.specs.{Prelude.{ℕ, List}, Option.option_map}
 use Rattle.frame_values.specs.Parts.{bytes_in, part}
 use Rattle.descriptor_doc.specs.Descriptors.{words_in}
-use Rattle.micro_desc.specs.declared.head.MicroHead.{MicroHead}
-use Rattle.micro_desc.specs.declared.micro.Micro.{Micro}
+use Rattle.micro_desc.specs.declared.{head.MicroHead.MicroHead, micro.Micro.Micro}
 
 -- what the microdescriptor says of which this was kept, in these bytes
 abbrev pub micro_in : List ℕ → MicroHead → Micro

@@ -1,14 +1,9 @@
 -- The microdescriptor that bytes begin with, or their first fault (dir-spec, "Computing microdescriptors").
 use Rattle.std.specs.Prelude.{◌≡◌, ℕ, ◌≤◌, List, length, Result, Ok, Err}
 use Rattle.item_terms.specs.Items.{items_of}
-use Rattle.frame_terms.specs.declared.fault.ReadRefusal.{ReadRefusal}
-use Rattle.frame_terms.specs.Documents.{document_of, finish}
-use Rattle.frame_terms.specs.Refusals.{Fails}
-use Rattle.micro_desc.specs.Tables.{micro_tables}
-use Rattle.micro_desc.specs.declared.head.MicroHead.{MicroHead}
-use Rattle.micro_desc.specs.declared.micro.Micro.{Micro}
-use Rattle.micro_desc.specs.Heads.{no_head, head_with}
-use Rattle.micro_desc.specs.Micros.{micro_in}
+use Rattle.frame_terms.specs.{declared.fault.ReadRefusal.ReadRefusal, Documents.{document_of, finish}, Refusals.Fails}
+use Rattle.micro_desc.specs.{Tables.micro_tables, declared.{head.MicroHead.MicroHead, micro.Micro.Micro}, Heads.no_head}
+use Rattle.micro_desc.specs.{Heads.head_with, Micros.micro_in}
 
 -- how many bytes a microdescriptor may have
 abbrev pub max_micro : ℕ

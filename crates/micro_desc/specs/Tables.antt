@@ -1,18 +1,12 @@
 -- The items of a microdescriptor, which has one section (dir-spec, "Computing microdescriptors").
 use Rattle.std.specs.Prelude.{false, List, [], ◌∷◌, None, Ok}
 use Rattle.frame_terms.specs.declared.keyword.Keyword.TheVariants as the
-use Rattle.frame_terms.specs.declared.row.Count.TheVariants.{One, Optional}
-use Rattle.frame_terms.specs.declared.row.Row.{Row}
+use Rattle.frame_terms.specs.declared.{row.{Count.TheVariants.{One, Optional}, Row.Row}, section.Shape.Shape}
+use Rattle.frame_terms.specs.{Rows.row, Tables.Tables}
 use Rattle.frame_terms.specs.declared.section.Again.TheVariants as again
-use Rattle.frame_terms.specs.declared.section.Shape.{Shape}
-use Rattle.frame_terms.specs.Rows.{row}
-use Rattle.frame_terms.specs.Tables.{Tables}
-use Rattle.frame_values.specs.declared.values.Value.{Value}
-use Rattle.frame_values.specs.Faults.{at_place}
-use Rattle.micro_desc.specs.declared.said.MicroKind.{MicroKind}
+use Rattle.frame_values.specs.{declared.values.Value.Value, Faults.at_place}
+use Rattle.micro_desc.specs.{declared.said.{MicroKind.MicroKind, MicroValue.MicroValue}, Lines.value_at}
 use Rattle.micro_desc.specs.declared.said.MicroKind.TheVariants as kind
-use Rattle.micro_desc.specs.declared.said.MicroValue.{MicroValue}
-use Rattle.micro_desc.specs.Lines.{value_at}
 
 -- its items; the first one opens it
 abbrev pub rows : List (Row MicroKind)

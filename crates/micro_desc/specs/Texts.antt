@@ -1,7 +1,6 @@
 -- The canonical text of a microdescriptor: its items in the order of the table, with single spaces; and its digest
 -- (dir-spec, "Computing microdescriptors").
-use Rattle.std.specs.Prelude.{ℕ, List, [], ◌∷◌, ◌++◌, Option, Some, None, codes}
-use Rattle.std.specs.Option.{option_map}
+use Rattle.std.specs.{Prelude.{ℕ, List, [], ◌∷◌, ◌++◌, Option, Some, None, codes}, Option.option_map}
 use Rattle.sha2.specs.Sha256.{sha256}
 use Rattle.dir_bytes.specs.FieldTexts.{base64_text}
 use Rattle.dir_values.specs.declared.digest.Digest2.{Digest2}
@@ -9,9 +8,7 @@ use Rattle.dirdoc_grammar.specs.Writing.{NewItem, items_text}
 use Rattle.frame_terms.specs.declared.keyword.Keyword.TheVariants as the
 use Rattle.frame_values.specs.Items.{bare, with_object, item_if}
 use Rattle.descriptor_frame.specs.Families.{family_text}
-use Rattle.micro_desc.specs.declared.said.MicroId.{MicroId}
-use Rattle.micro_desc.specs.declared.said.MicroId.TheVariants.{Ed25519, Rsa1024}
-use Rattle.micro_desc.specs.declared.micro.Micro.{Micro}
+use Rattle.micro_desc.specs.declared.{said.MicroId.{MicroId, TheVariants.{Ed25519, Rsa1024}}, micro.Micro.Micro}
 
 -- the first item, with the onion key as its object where there is one
 abbrev pub onion_key_item : Option (List ℕ) → NewItem

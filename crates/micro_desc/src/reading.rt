@@ -1,7 +1,6 @@
 // Reading a microdescriptor.
 ghost use Rattle.std.specs.Prelude.{◌<◌, ◌^◌, length};
-ghost use Rattle.micro_desc.specs.Heads.{head_with};
-ghost use Rattle.micro_desc.specs.Reading.{ReadsMicro};
+ghost use Rattle.micro_desc.specs.{Heads.head_with, Reading.ReadsMicro};
 
 use crate::frame::MicroFrame;
 use crate::head::{MicroHead, head_of, micro_at};

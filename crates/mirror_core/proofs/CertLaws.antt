@@ -1,20 +1,16 @@
 -- The certificates that are kept.
-use Rattle.std.proofs.Common.{◌≡◌, ℕ, Bool, true, false, List, [], ◌∷◌, ◌++◌, filter, refl, inl, inr, subst, sym, ap, ◌∙◌}
-use Rattle.std.proofs.lemmas.List.Elements.{All-head, All-tail, All-cons, All-append, All-weaker, All-filter, filter_passes}
-use Rattle.std.proofs.lemmas.List.Kept.{AllPairs-filter}
-use Rattle.std.specs.Prelude.{All, AllPairs, ◌&&◌, ◌⊎◌}
+use Rattle.std.proofs.Common.{◌≡◌, ℕ, Bool, true, false, List, [], ◌∷◌, ◌++◌, filter, refl, inl, inr, subst, sym, ap}
+use Rattle.std.proofs.{Common.◌∙◌, lemmas.List.Elements.{All-head, All-tail, All-cons, All-append, All-weaker}}
+use Rattle.std.{proofs.lemmas.List.{Elements.{All-filter, filter_passes}, Kept.AllPairs-filter}, specs.Prelude.All}
+use Rattle.std.specs.Prelude.{AllPairs, ◌&&◌, ◌⊎◌}
 use Rattle.dir_values.proofs.Orders.{below-trans, AllPairs-cons, AllPairs-head, AllPairs-tail}
-use Rattle.dir_values.specs.Digests.{identity_below}
-use Rattle.dir_values.specs.Rosters.{has_member}
-use Rattle.dir_values.specs.declared.digest.Fingerprint.{Fingerprint}
+use Rattle.dir_values.specs.{Digests.identity_below, Rosters.has_member, declared.digest.Fingerprint.Fingerprint}
 use Rattle.key_port.specs.Answers.{Rules}
-use Rattle.authority_certs.specs.Checks.{Checks, IsCertified}
-use Rattle.authority_certs.specs.declared.cert.Cert.{Cert}
+use Rattle.authority_certs.specs.{Checks.{Checks, IsCertified}, declared.cert.Cert.Cert}
 use Rattle.authority_certs.specs.declared.checking.CertAnswer.{CertAnswer}
 use Rattle.authority_certs.specs.declared.checking.CertAnswer.TheVariants as checked
-use Rattle.mirror_core.specs.Answers.{CertTally, TakesCert, TakesChecked, TakesEach, as_kept, cert_for, is_later, keeps, refuses, skips, with_cert}
-use Rattle.mirror_core.specs.Sound.{CertsAscend, IsChecked}
-use Rattle.mirror_core.specs.States.{KeptCert}
+use Rattle.mirror_core.specs.Answers.{CertTally, TakesCert, TakesChecked, TakesEach, as_kept, cert_for, is_later, keeps}
+use Rattle.mirror_core.specs.{Answers.{refuses, skips, with_cert}, Sound.{CertsAscend, IsChecked}, States.KeptCert}
 
 -- a certificate comes before another
 abbrev Before : KeptCert → KeptCert → Type 0

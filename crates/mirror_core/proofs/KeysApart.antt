@@ -1,13 +1,10 @@
 -- The keys of certificates that ascend.
-use Rattle.std.proofs.Common.{◌≡◌, List, [], ◌∷◌, true}
+use Rattle.std.proofs.{Common.{◌≡◌, List, [], ◌∷◌, true}, lemmas.List.Elements.{All-nil, All-cons, All-head, All-tail}}
 use Rattle.std.specs.Prelude.{All, AllPairs}
-use Rattle.std.proofs.lemmas.List.Elements.{All-nil, All-cons, All-head, All-tail}
 use Rattle.dir_values.proofs.Orders.{apart, AllPairs-cons, AllPairs-head, AllPairs-tail, AllPairs-nil}
 use Rattle.dir_values.specs.Digests.{identity_below}
 use Rattle.detached_sigs.specs.Signers.{AreApart}
-use Rattle.mirror_core.specs.Signers.{key_of, keys_of}
-use Rattle.mirror_core.specs.Sound.{CertsAscend}
-use Rattle.mirror_core.specs.States.{KeptCert}
+use Rattle.mirror_core.specs.{Signers.{key_of, keys_of}, Sound.CertsAscend, States.KeptCert}
 
 abbrev Before : KeptCert → KeptCert → Type 0
 Before one other = identity_below one.cert.fingerprint other.cert.fingerprint ≡ true

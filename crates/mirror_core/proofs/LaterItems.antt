@@ -1,17 +1,14 @@
 -- Of the items of a text only the first may stand at its first byte.
-use Rattle.std.proofs.Common.{ℕ, ◌+◌, ◌≤◌, Bool, true, false, eqb, List, [], ◌∷◌, Option, Some, None}
-use Rattle.std.proofs.Common.{Result, Ok, Err, arith}
-use Rattle.std.specs.Prelude.{nat_lt, if◌then◌else◌}
-use Rattle.item_terms.specs.Base64Text.{is_body}
-use Rattle.item_terms.specs.declared.fault.DocFault.{DocFault}
-use Rattle.item_terms.specs.declared.fault.DocReason.TheVariants.{Keyword, ObjectTooLong, ObjectBase64, ObjectEnd}
-use Rattle.item_terms.specs.Faults.{at, line_fault, max_object, object_line_fault}
-use Rattle.item_terms.specs.Items.{Contents, also, at_end, contents_of, items_of, proceed}
-use Rattle.item_terms.specs.Lines.{Line, lines, onto, size}
-use Rattle.item_terms.specs.Steps.{Item, Open, Step, begun_object, first_object_line, item_unless, keyword_item}
-use Rattle.item_terms.specs.Steps.{keyword_line, line_item, nothing, object_lines, object_step, open_item}
-use Rattle.item_terms.specs.Steps.{open_unless, read_line, starts_dash, step, step_unless, with_line, with_object}
-use Rattle.item_terms.specs.Words.{begin_words, is_blank_line, is_end_line, is_keyword_line}
+use Rattle.std.proofs.Common.{ℕ, ◌+◌, ◌≤◌, Bool, true, false, eqb, List, [], ◌∷◌, Option, Some, None, Result, Ok, Err}
+use Rattle.std.{proofs.Common.arith, specs.Prelude.{nat_lt, if◌then◌else◌}}
+use Rattle.item_terms.specs.{Base64Text.is_body, declared.fault.{DocFault.DocFault, DocReason.TheVariants.Keyword}}
+use Rattle.item_terms.specs.{declared.fault.DocReason.TheVariants.{ObjectTooLong, ObjectBase64, ObjectEnd}, Faults.at}
+use Rattle.item_terms.specs.{Faults.{line_fault, max_object, object_line_fault}, Items.{Contents, also, at_end}}
+use Rattle.item_terms.specs.{Items.{contents_of, items_of, proceed}, Lines.{Line, lines, onto, size}, Steps.Item}
+use Rattle.item_terms.specs.Steps.{Open, Step, begun_object, first_object_line, item_unless, keyword_item, keyword_line}
+use Rattle.item_terms.specs.Steps.{line_item, nothing, object_lines, object_step, open_item, open_unless, read_line}
+use Rattle.item_terms.specs.{Steps.{starts_dash, step, step_unless, with_line, with_object}, Words.begin_words}
+use Rattle.item_terms.specs.Words.{is_blank_line, is_end_line, is_keyword_line}
 
 -- these items stand at a place or behind it
 abbrev pub AreFrom : ℕ → List Item → Type 0

@@ -1,15 +1,10 @@
 -- Keys of members, each of another authority: there are no more than the roster has members.
-use Rattle.std.proofs.Common.{◌≡◌, ◌≤◌, ℕ, ◌+◌, Bool, true, false, ◌||◌, List, [], ◌∷◌, length, refl, sym, ◌∙◌, subst, arith, cond}
-use Rattle.std.proofs.lemmas.Bool.{false≢true}
-use Rattle.std.proofs.lemmas.List.Elements.{All-nil, All-cons, All-head, All-tail}
-use Rattle.std.specs.Prelude.{All, AllPairs}
-use Rattle.std.specs.Str.{bytes_eq}
+use Rattle.std.proofs.Common.{◌≡◌, ◌≤◌, ℕ, ◌+◌, Bool, true, false, ◌||◌, List, [], ◌∷◌, length, refl, sym, ◌∙◌, subst}
+use Rattle.std.proofs.{Common.{arith, cond}, lemmas.{Bool.false≢true, List.Elements.{All-nil, All-cons, All-head}}}
+use Rattle.std.{proofs.lemmas.List.Elements.All-tail, specs.{Prelude.{All, AllPairs}, Str.bytes_eq}}
 use Rattle.dir_values.proofs.Orders.{AllPairs-head, AllPairs-tail, same_text}
-use Rattle.dir_values.specs.declared.digest.Fingerprint.{Fingerprint}
-use Rattle.dir_values.specs.Digests.{same_identity}
-use Rattle.dir_values.specs.Rosters.{has_member}
-use Rattle.detached_sigs.specs.Signers.{AreApart}
-use Rattle.detached_sigs.specs.declared.key.SignerKey.{SignerKey}
+use Rattle.dir_values.specs.{declared.digest.Fingerprint.Fingerprint, Digests.same_identity, Rosters.has_member}
+use Rattle.detached_sigs.specs.{Signers.AreApart, declared.key.SignerKey.SignerKey}
 
 -- a key is of a member
 abbrev pub IsOfMember : List Fingerprint → SignerKey → Type 0

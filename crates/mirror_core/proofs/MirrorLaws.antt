@@ -1,21 +1,17 @@
 -- What holds of a mirror after each call.
 use Rattle.std.proofs.Common.{◌≡◌, ℕ, true, List, [], ◌∷◌, Ok, Err, inl, inr, refl, subst, sym, ◌∙◌, arith}
-use Rattle.std.proofs.lemmas.List.Elements.{All-nil, All-cons}
-use Rattle.std.specs.Prelude.{All, Option, Some, None, Result, is_some}
+use Rattle.std.{proofs.lemmas.List.Elements.{All-nil, All-cons}, specs.Prelude.{All, Option, Some, None, Result}}
+use Rattle.std.specs.Prelude.{is_some}
 use Rattle.dir_values.specs.declared.digest.Fingerprint.{Fingerprint}
 use Rattle.key_port.specs.Answers.{Rules}
-use Rattle.mirror_core.proofs.RowLaws.{found_has, rows_are, rows_have, taken_are, taken_have}
-use Rattle.mirror_core.specs.Laws.{AreRowsOf, HasDigest, HaveDigests}
-use Rattle.mirror_core.specs.Rows.{Rows, row_of, text_in}
-use Rattle.mirror_core.specs.declared.terms_refusal.MirrorRefusal.{MirrorRefusal}
-use Rattle.mirror_core.specs.declared.report.CertReport.{CertReport}
-use Rattle.mirror_core.specs.declared.report.MicroReport.{MicroReport}
-use Rattle.mirror_core.specs.Answers.{AnswersCerts, AnswersConsensus, AnswersMicros, MicroTally, TakesCerts, TakesConsensus, TakesMicros, micro_with, no_certs_yet, no_micros_yet, with_micro, with_micros}
-use Rattle.mirror_core.specs.Lists.{Calls, CallsLeave}
-use Rattle.mirror_core.specs.Sound.{IsSound}
-use Rattle.mirror_core.specs.States.{Mirrored, named, named_by, no_mirror}
-use Rattle.mirror_core.proofs.CertLaws.{AreSound, each_taken}
-use Rattle.mirror_core.proofs.SignerLaws.{by_majority}
+use Rattle.mirror_core.proofs.{RowLaws.{found_has, rows_are, rows_have, taken_are, taken_have}, CertLaws.AreSound}
+use Rattle.mirror_core.{proofs.{CertLaws.each_taken, SignerLaws.by_majority}, specs.Laws.{AreRowsOf, HasDigest}}
+use Rattle.mirror_core.specs.{Laws.HaveDigests, Rows.{Rows, row_of, text_in}}
+use Rattle.mirror_core.specs.declared.{terms_refusal.MirrorRefusal.MirrorRefusal, report.CertReport.CertReport}
+use Rattle.mirror_core.specs.{declared.report.MicroReport.MicroReport, Answers.{AnswersCerts, AnswersConsensus}}
+use Rattle.mirror_core.specs.Answers.{AnswersMicros, MicroTally, TakesCerts, TakesConsensus, TakesMicros, micro_with}
+use Rattle.mirror_core.specs.{Answers.{no_certs_yet, no_micros_yet, with_micro, with_micros}, Extent.consensus_part}
+use Rattle.mirror_core.specs.{Lists.{Calls, CallsLeave}, Sound.IsSound, States.{Mirrored, named, named_by, no_mirror}}
 use Rattle.mirror_core.specs.Served.{IsNamedText}
 use Rattle.micro_desc.specs.declared.micro.Micro.{Micro}
 
@@ -92,7 +88,8 @@ certs_answered rules now before after bytes (Err why) sound answers = unchanged 
 
 pub consensus_answered : (rules : Rules) (before after : Mirrored) (bytes : List ℕ) (answer : Result ℕ MirrorRefusal)
     → IsSound rules before → AnswersConsensus rules before bytes answer after → IsSound rules after
-consensus_answered rules before after bytes (Ok count) sound answers = consensus_taken rules before after bytes count sound answers
+consensus_answered rules before after bytes (Ok count) sound answers =
+    consensus_taken rules before after (consensus_part bytes) count sound answers
 consensus_answered rules before after bytes (Err why) sound answers = unchanged rules before after sound answers.1
 
 pub micros_answered : (rules : Rules) (before after : Mirrored) (bytes : List ℕ) (answer : Result MicroReport MirrorRefusal)

@@ -1,11 +1,8 @@
 -- The digests that are missing.
-use Rattle.std.proofs.Common.{◌≡◌, ℕ, ◌+◌, ◌≤◌, ◌<◌, Bool, true, false, List, [], ◌∷◌, ◌++◌, length, get_or, take, drop, refl, sym, ap, subst, ◌∙◌, arith}
-use Rattle.std.proofs.Math.Seq.{take-append_seam}
-use Rattle.std.proofs.lemmas.List.{take_all, drop_all, drop_more}
-use Rattle.std.proofs.lemmas.Grind.{common_steps}
-use Rattle.std.specs.Prelude.{if◌then◌else◌}
-use Rattle.mirror_core.specs.Rows.{Rows}
-use Rattle.mirror_core.specs.Wanting.{is_passed, missing_after, most_wanted}
+use Rattle.std.proofs.Common.{◌≡◌, ℕ, ◌+◌, ◌≤◌, ◌<◌, Bool, true, false, List, [], ◌∷◌, ◌++◌, length, get_or, take, drop}
+use Rattle.std.proofs.{Common.{refl, sym, ap, subst, ◌∙◌, arith}, Math.Seq.take-append_seam, lemmas.List.take_all}
+use Rattle.std.{proofs.lemmas.{List.{drop_all, drop_more}, Grind.common_steps}, specs.Prelude.if◌then◌else◌}
+use Rattle.mirror_core.specs.{Rows.Rows, Wanting.{is_passed, missing_after, most_wanted}}
 
 -- those that stand behind the ones before
 pub record Behind (before all : List (List ℕ)) : Type 0 where

@@ -1,18 +1,12 @@
 -- What reading a certificate and a microdescriptor answers, as of any kind of document, and what is told of a fault there.
 use Rattle.std.proofs.Common.{◌≡◌, ℕ, ◌+◌, ◌-◌, ◌<◌, ◌≤◌, List, length, take, drop, Result, Ok, Err, ap, subst, ◌∙◌}
-use Rattle.std.proofs.Common.{arith, length-drop}
-use Rattle.std.specs.Prelude.{◌^◌, IfErr}
-use Rattle.std.proofs.lemmas.List.{take_rest}
-use Rattle.frame_terms.specs.declared.fault.FrameFault.{FrameFault}
-use Rattle.frame_terms.specs.declared.fault.ReadRefusal.{ReadRefusal}
+use Rattle.std.{proofs.{Common.{arith, length-drop}, lemmas.List.take_rest}, specs.Prelude.{◌^◌, IfErr}}
+use Rattle.frame_terms.specs.declared.fault.{FrameFault.FrameFault, ReadRefusal.ReadRefusal}
 use Rattle.frame_terms.specs.declared.fault.ReadRefusal.TheVariants as read
-use Rattle.authority_certs.specs.Reading.{ReadsCert, cert_of}
-use Rattle.authority_certs.specs.declared.cert.Cert.{Cert}
-use Rattle.micro_desc.specs.Reading.{ReadsMicro, micro_of}
-use Rattle.micro_desc.specs.declared.micro.Micro.{Micro}
+use Rattle.authority_certs.specs.{Reading.{ReadsCert, cert_of}, declared.cert.Cert.Cert}
+use Rattle.micro_desc.specs.{Reading.{ReadsMicro, micro_of}, declared.micro.Micro.Micro}
 use Rattle.document_faults.proofs.DocumentFaults.{cert_within, micro_within}
-use Rattle.mirror_core.proofs.SomeBytes.{certs_have, micros_have}
-use Rattle.mirror_core.specs.Reads.{IsWithin, ReadsOne}
+use Rattle.mirror_core.{proofs.SomeBytes.{certs_have, micros_have}, specs.Reads.{IsWithin, ReadsOne}}
 
 pub reads_cert : (bytes : List ℕ) (read : Result (Cert × ℕ) ReadRefusal) → 0 < length bytes → ReadsCert bytes read
     → ReadsOne cert_of bytes read

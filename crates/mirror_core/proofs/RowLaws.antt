@@ -1,22 +1,14 @@
 -- Rows, and one row more.
 use Rattle.std.proofs.Common.{◌≡◌, ℕ, Bool, true, false, List, [], ◌∷◌, refl, sym, ap, subst, ◌∙◌}
-use Rattle.std.proofs.lemmas.Map.Lookups.{exact_bytes}
-use Rattle.std.proofs.lemmas.List.Elements.{All-nil, All-cons, All-head, All-tail}
-use Rattle.std.proofs.lemmas.Bool.{false≢true}
-use Rattle.std.proofs.lemmas.Slice.Eq.{bytes_eq-Decides}
-use Rattle.std.specs.Prelude.{Option, Some, None, ◌||◌, cond, is_some}
-use Rattle.std.specs.BTreeMap.{is_at}
-use Rattle.std.specs.Cmp.{tied_itself, alike_right, Equal-is, both_ways}
-use Rattle.std.specs.Cmp.Lexicographic.{slice_cmp, nat_list_cmp_total}
-use Rattle.std.specs.Ordering.{is_eq, match_ordering, nat_cmp}
-use Rattle.std.specs.Str.{bytes_eq}
-use Rattle.std.specs.declared.cmp.Ordering.{Ordering}
-use Rattle.std.specs.declared.cmp.Ordering.TheVariants.{Less, Equal, Greater}
+use Rattle.std.proofs.lemmas.{Map.Lookups.exact_bytes, List.Elements.{All-nil, All-cons, All-head, All-tail}}
+use Rattle.std.{proofs.lemmas.{Bool.false≢true, Slice.Eq.bytes_eq-Decides}, specs.Prelude.{Option, Some, None, ◌||◌}}
+use Rattle.std.specs.{Prelude.{cond, is_some}, BTreeMap.is_at, Cmp.{tied_itself, alike_right, Equal-is, both_ways}}
+use Rattle.std.specs.{Cmp.Lexicographic.{slice_cmp, nat_list_cmp_total}, Ordering.{is_eq, match_ordering, nat_cmp}}
+use Rattle.std.specs.{Str.bytes_eq, declared.cmp.Ordering.{Ordering, TheVariants.{Less, Equal, Greater}}}
 use Rattle.sha2.specs.Sha256.{sha256}
-use Rattle.mirror_core.specs.Laws.{AreRowsOf, HasDigest, HaveDigests}
-use Rattle.mirror_core.specs.Rows.{Rows, micro_of, row_of, rows_after, rows_by, rows_of, taken_by, taking_outcome, text_in, with_row, with_rows}
-use Rattle.mirror_core.specs.Wanting.{is_among}
-use Rattle.mirror_core.specs.declared.taken.Taken.{Taken}
+use Rattle.mirror_core.specs.{Laws.{AreRowsOf, HasDigest, HaveDigests}, Rows.{Rows, micro_of, row_of, rows_after}}
+use Rattle.mirror_core.specs.Rows.{rows_by, rows_of, taken_by, taking_outcome, text_in, with_row, with_rows}
+use Rattle.mirror_core.specs.{Wanting.is_among, declared.taken.Taken.Taken}
 use Rattle.mirror_core.specs.declared.taken.Taken.TheVariants as taken
 
 -- ---- keys

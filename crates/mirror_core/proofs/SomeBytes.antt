@@ -1,20 +1,14 @@
 -- A certificate has a byte, and a microdescriptor has one.
 use Rattle.std.proofs.Common.{◌≡◌, ℕ, ◌<◌, List, length, Result, Ok, Err, ap, refl, subst}
-use Rattle.frame_terms.specs.Documents.{document_of, finish}
-use Rattle.frame_terms.specs.declared.fault.ReadRefusal.{ReadRefusal}
+use Rattle.frame_terms.specs.{Documents.{document_of, finish}, declared.fault.ReadRefusal.ReadRefusal}
 use Rattle.item_terms.specs.Items.{items_of}
 use Rattle.authority_certs.specs.Heads as cert_heads
-use Rattle.authority_certs.specs.Reading.{cert_of, max_cert, with_cert}
-use Rattle.authority_certs.specs.Tables.{cert_tables}
-use Rattle.authority_certs.specs.declared.cert.Cert.{Cert}
+use Rattle.authority_certs.specs.{Reading.{cert_of, max_cert, with_cert}, Tables.cert_tables, declared.cert.Cert.Cert}
 use Rattle.authority_certs.specs.declared.head.CertHead.{CertHead}
 use Rattle.micro_desc.specs.Heads as micro_heads
-use Rattle.micro_desc.specs.Reading.{max_micro, micro_of, with_micro}
-use Rattle.micro_desc.specs.Tables.{micro_tables}
-use Rattle.micro_desc.specs.declared.head.MicroHead.{MicroHead}
-use Rattle.micro_desc.specs.declared.micro.Micro.{Micro}
-use Rattle.mirror_core.proofs.UsedBytes.{have_bytes}
-use Rattle.mirror_core.specs.Bytes.{HaveBytes}
+use Rattle.micro_desc.specs.{Reading.{max_micro, micro_of, with_micro}, Tables.micro_tables}
+use Rattle.micro_desc.specs.declared.{head.MicroHead.MicroHead, micro.Micro.Micro}
+use Rattle.mirror_core.{proofs.UsedBytes.have_bytes, specs.Bytes.HaveBytes}
 
 -- how many bytes what was read has
 abbrev used_of : {X : Type 0} → Result (X × ℕ) ReadRefusal → ℕ

@@ -4,15 +4,11 @@ use Rattle.key_port.specs.Answers.{Rules}
 use Rattle.authority_certs.specs.declared.cert.Cert.{Cert}
 use Rattle.consensus_terms.specs.declared.consensus.SignedConsensus.{SignedConsensus}
 use Rattle.detached_sigs.specs.declared.key.SignerKey.{SignerKey}
-use Rattle.mirror_core.specs.Rows.{Rows, rows_of}
+use Rattle.mirror_core.specs.{Rows.{Rows, rows_of}, Answers.{CertTally, IsSignedBy, TakesEach, no_certs_yet}}
+use Rattle.mirror_core.specs.{Answers.{no_micros_yet, with_micros}, Sound.IsSound, States.{HeldConsensus, KeptCert}}
+use Rattle.mirror_core.{specs.{States.{Mirrored, named, named_by}, Lending.IsMajority}, proofs.CertLaws.AreSound}
+use Rattle.mirror_core.proofs.{CertLaws.each_taken, MirrorLaws.{consensus_taken, each_micro}, TakenConsensus.taken}
 use Rattle.micro_desc.specs.declared.micro.Micro.{Micro}
-use Rattle.mirror_core.specs.Answers.{CertTally, IsSignedBy, TakesEach, no_certs_yet, no_micros_yet, with_micros}
-use Rattle.mirror_core.specs.Sound.{IsSound}
-use Rattle.mirror_core.specs.States.{HeldConsensus, KeptCert, Mirrored, named, named_by}
-use Rattle.mirror_core.proofs.CertLaws.{AreSound, each_taken}
-use Rattle.mirror_core.proofs.MirrorLaws.{consensus_taken, each_micro}
-use Rattle.mirror_core.specs.Lending.{IsMajority}
-use Rattle.mirror_core.proofs.TakenConsensus.{taken}
 
 -- after microdescriptors
 pub micros_sound : (rules : Rules) (mirror : Mirrored) (micros : List (Micro × List ℕ)) (rows : Rows) → IsSound rules mirror

@@ -1,15 +1,12 @@
 -- Documents that stand one behind the other.
-use Rattle.std.proofs.Common.{◌≡◌, ℕ, ◌+◌, ◌<◌, ◌≤◌, List, [], ◌∷◌, ◌++◌, length, drop, Result, refl, sym, ap, subst, ◌∙◌, arith}
-use Rattle.std.proofs.lemmas.Grind.{common_steps}
+use Rattle.std.proofs.Common.{◌≡◌, ℕ, ◌+◌, ◌<◌, ◌≤◌, List, [], ◌∷◌, ◌++◌, length, drop, Result, refl, sym, ap, subst}
+use Rattle.std.proofs.{Common.{◌∙◌, arith}, lemmas.{Grind.common_steps, Bool.{ltb-true, ltb-false}, List.drop_all}}
 use Rattle.std.specs.Prelude.{Bool, true, false, nat_lt, Some, slice_range}
 use Rattle.frame_terms.specs.declared.fault.ReadRefusal.{ReadRefusal}
 use Rattle.frame_terms.specs.declared.fault.ReadRefusal.TheVariants as read
-use Rattle.std.proofs.lemmas.Bool.{ltb-true, ltb-false}
-use Rattle.std.proofs.lemmas.List.{drop_all}
 use Rattle.item_terms.specs.Lines.{lines}
 use Rattle.blank_lines.specs.Blanks.{after_blanks, first_other}
-use Rattle.mirror_core.specs.Inputs.{Stand, StandsAt}
-use Rattle.mirror_core.specs.Reads.{IsThere}
+use Rattle.mirror_core.specs.{Inputs.{Stand, StandsAt}, Reads.IsThere}
 
 -- where a line that is not blank follows, bytes are left
 pub some_left : (bytes : List ℕ) (place begin : ℕ) → Some begin ≡ after_blanks place bytes → place < length bytes

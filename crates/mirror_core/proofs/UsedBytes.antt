@@ -1,30 +1,16 @@
 -- A document that is read of an input with a byte has a byte.
-use Rattle.std.proofs.Common.{ℕ, ◌≤◌, ◌<◌, List, [], ◌∷◌, length, Option, Some, None, Result, Ok, Err}
-use Rattle.std.proofs.Common.{subst, arith}
-use Rattle.item_terms.specs.Items.{Item, items_of}
-use Rattle.item_terms.specs.declared.fault.DocFault.{DocFault}
-use Rattle.dirdoc_grammar.specs.InPlace.{EachInPlace}
-use Rattle.dirdoc_grammar.proofs.Places.{stand_in_place}
-use Rattle.frame_terms.specs.declared.document.Group.{Group}
-use Rattle.frame_terms.specs.declared.document.Made.{Made}
-use Rattle.frame_terms.specs.declared.document.Made.TheVariants.{Passes, Pushes, Opens, Enters, Leaves, Ends, Stops}
-use Rattle.frame_terms.specs.declared.document.Open.{Open}
-use Rattle.frame_terms.specs.declared.document.Taken.{Taken}
-use Rattle.frame_terms.specs.declared.fault.FrameFault.{FrameFault}
-use Rattle.frame_terms.specs.declared.fault.FrameReason.{FrameReason}
-use Rattle.frame_terms.specs.declared.fault.ReadRefusal.{ReadRefusal}
-use Rattle.frame_terms.specs.declared.keyword.Keyword.{Keyword}
-use Rattle.frame_terms.specs.declared.row.Row.{Row}
-use Rattle.frame_terms.specs.Decisions.{beginning_reason, first_item, made_by, unless_refused}
-use Rattle.frame_terms.specs.Documents.{Document, closed_at, at_end, missing_at_end, with_next, with_inner, with_one}
-use Rattle.frame_terms.specs.Documents.{without_inner, onto, go_on, note_of_made, after_noted, after_made, read_items}
-use Rattle.frame_terms.specs.Documents.{start, document_of, finish}
-use Rattle.frame_terms.specs.Keywords.{word_of}
-use Rattle.frame_terms.specs.Sections.{accept, row_of}
-use Rattle.frame_terms.specs.Standing.{as_made, begins}
-use Rattle.frame_terms.specs.Tables.{Tables}
-use Rattle.mirror_core.specs.Used.{HasBytes}
-use Rattle.mirror_core.proofs.LaterItems.{AreFrom, AreLater, items_later}
+use Rattle.std.proofs.Common.{ℕ, ◌≤◌, ◌<◌, List, [], ◌∷◌, length, Option, Some, None, Result, Ok, Err, subst, arith}
+use Rattle.item_terms.specs.{Items.{Item, items_of}, declared.fault.DocFault.DocFault}
+use Rattle.dirdoc_grammar.{specs.InPlace.EachInPlace, proofs.Places.stand_in_place}
+use Rattle.frame_terms.specs.declared.document.{Group.Group, Made.{Made, TheVariants.{Passes, Pushes, Opens, Enters}}}
+use Rattle.frame_terms.specs.declared.document.{Made.TheVariants.{Leaves, Ends, Stops}, Open.Open, Taken.Taken}
+use Rattle.frame_terms.specs.declared.fault.{FrameFault.FrameFault, FrameReason.FrameReason, ReadRefusal.ReadRefusal}
+use Rattle.frame_terms.specs.{declared.{keyword.Keyword.Keyword, row.Row.Row}, Decisions.{beginning_reason, first_item}}
+use Rattle.frame_terms.specs.{Decisions.{made_by, unless_refused}, Documents.{Document, closed_at, at_end}}
+use Rattle.frame_terms.specs.Documents.{missing_at_end, with_next, with_inner, with_one, without_inner, onto, go_on}
+use Rattle.frame_terms.specs.Documents.{note_of_made, after_noted, after_made, read_items, start, document_of, finish}
+use Rattle.frame_terms.specs.{Keywords.word_of, Sections.{accept, row_of}, Standing.{as_made, begins}, Tables.Tables}
+use Rattle.mirror_core.{specs.Used.HasBytes, proofs.LaterItems.{AreFrom, AreLater, items_later}}
 
 -- the document, if one is read, has a byte
 abbrev UsesSome : {S V : Type 0} → Result (Document S V) ReadRefusal → Type 0

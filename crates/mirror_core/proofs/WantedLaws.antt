@@ -1,15 +1,11 @@
 -- What is wanted.
-use Rattle.std.proofs.Common.{◌≡◌, ℕ, ◌≤◌, Bool, true, false, List, [], ◌∷◌, ◌++◌, length, take, refl, sym, ap, subst, ◌∙◌, arith}
-use Rattle.std.proofs.lemmas.List.Elements.{All-nil, All-cons, All-head, All-tail, All-push, All-take}
-use Rattle.std.proofs.lemmas.Bool.{false≢true}
-use Rattle.std.proofs.lemmas.List.Quantifiers.{all_pairs_push}
-use Rattle.std.proofs.lemmas.Grind.{common_steps}
-use Rattle.std.proofs.lemmas.Slice.Eq.{bytes_eq-Decides}
-use Rattle.std.specs.Str.{bytes_eq}
-use Rattle.std.specs.Prelude.{All, AllPairs, ◌||◌, is_some, if◌then◌else◌}
-use Rattle.mirror_core.specs.Laws.{AreWanted, Differ, IsHeld, IsMissing}
-use Rattle.mirror_core.specs.Rows.{Rows, micro_of}
-use Rattle.mirror_core.specs.Wanting.{is_among, is_passed, missing_digests, missing_after, most_wanted, first_missing}
+use Rattle.std.proofs.Common.{◌≡◌, ℕ, ◌≤◌, Bool, true, false, List, [], ◌∷◌, ◌++◌, length, take, refl, sym, ap, subst}
+use Rattle.std.proofs.{Common.{◌∙◌, arith}, lemmas.List.Elements.{All-nil, All-cons, All-head, All-tail, All-push}}
+use Rattle.std.proofs.lemmas.{List.{Elements.All-take, Quantifiers.all_pairs_push}, Bool.false≢true, Grind.common_steps}
+use Rattle.std.{proofs.lemmas.Slice.Eq.bytes_eq-Decides, specs.{Str.bytes_eq, Prelude.{All, AllPairs, ◌||◌, is_some}}}
+use Rattle.std.specs.Prelude.{if◌then◌else◌}
+use Rattle.mirror_core.specs.{Laws.{AreWanted, Differ, IsHeld, IsMissing}, Rows.{Rows, micro_of}, Wanting.is_among}
+use Rattle.mirror_core.specs.Wanting.{is_passed, missing_digests, missing_after, most_wanted, first_missing}
 use Rattle.mirror_core.proofs.Missing.{stands_first}
 
 -- where all are held, none is added

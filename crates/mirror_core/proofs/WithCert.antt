@@ -1,10 +1,7 @@
 -- Certificates with one more.
-use Rattle.std.proofs.Common.{◌≡◌, List, [], ◌∷◌, ◌++◌, ap, ◌∙◌}
-use Rattle.std.proofs.lemmas.List.{append_assoc}
+use Rattle.std.proofs.{Common.{◌≡◌, List, [], ◌∷◌, ◌++◌, ap, ◌∙◌}, lemmas.List.append_assoc}
 use Rattle.dir_values.specs.declared.digest.Fingerprint.{Fingerprint}
-use Rattle.mirror_core.specs.Answers.{with_cert}
-use Rattle.mirror_core.specs.States.{KeptCert}
-use Rattle.mirror_core.specs.Lending.{above, below}
+use Rattle.mirror_core.specs.{Answers.with_cert, States.KeptCert, Lending.{above, below}}
 
 -- those of smaller fingerprints, the new one, and those of greater ones
 pub joined : (certs : List KeptCert) (new : KeptCert) (authority : Fingerprint) (none front more all : List KeptCert)

@@ -1,36 +1,30 @@
 -- What the calls of a mirror answer, and what it holds then.
-use Rattle.std.specs.Prelude.{◌≡◌, ◌⊎◌, ℕ, ◌+◌, ◌≤◌, nat_lt, nat_eq, ◌&&◌, ◌||◌, Bool, true, false}
-use Rattle.std.specs.Prelude.{List, [], ◌∷◌, ◌++◌, length, filter, Option, Some, None, Result, Ok, Err}
-use Rattle.std.specs.List.{find, flat_map}
+use Rattle.std.specs.Prelude.{◌≡◌, ◌⊎◌, ℕ, ◌+◌, ◌≤◌, nat_lt, nat_eq, ◌&&◌, ◌||◌, Bool, true, false, List, [], ◌∷◌, ◌++◌}
+use Rattle.std.specs.{Prelude.{length, filter, Option, Some, None, Result, Ok, Err}, List.{find, flat_map}}
 use Rattle.count_terms.specs.Counts.{over}
-use Rattle.dir_values.specs.Digests.{bytes_below, identity_below, same_identity}
-use Rattle.dir_values.specs.Rosters.{has_member}
+use Rattle.dir_values.specs.{Digests.{bytes_below, identity_below, same_identity}, Rosters.has_member}
 use Rattle.dir_values.specs.declared.digest.Fingerprint.{Fingerprint}
+use Rattle.frame_terms.specs.declared.fault.FrameFault.{FrameFault}
 use Rattle.frame_terms.specs.declared.fault.ReadRefusal.TheVariants as read
+use Rattle.blank_lines.specs.Behind.{fault_behind}
 use Rattle.key_port.specs.Answers.{Rules}
-use Rattle.authority_certs.specs.Checks.{Checks}
-use Rattle.authority_certs.specs.Reading.{cert_of}
-use Rattle.authority_certs.specs.declared.cert.Cert.{Cert}
+use Rattle.authority_certs.specs.{Checks.Checks, Reading.cert_of, declared.cert.Cert.Cert}
 use Rattle.authority_certs.specs.declared.checking.CertAnswer.{CertAnswer}
 use Rattle.authority_certs.specs.declared.checking.CertAnswer.TheVariants as checked
 use Rattle.consensus_doc.specs.Reading.{consensus_of}
-use Rattle.consensus_terms.specs.declared.consensus.SignedConsensus.{SignedConsensus}
-use Rattle.consensus_terms.specs.declared.flavour.Flavour.TheVariants.{Ns, Microdesc}
+use Rattle.consensus_terms.specs.declared.{consensus.SignedConsensus.SignedConsensus, flavour.Flavour.TheVariants.Ns}
+use Rattle.consensus_terms.specs.declared.flavour.Flavour.TheVariants.{Microdesc}
 use Rattle.detached_sigs.specs.declared.key.SignerKey.{SignerKey}
-use Rattle.micro_desc.specs.Reading.{micro_of}
-use Rattle.micro_desc.specs.declared.micro.Micro.{Micro}
+use Rattle.micro_desc.specs.{Reading.micro_of, declared.micro.Micro.Micro}
 use Rattle.mirror_core.specs.Rows as shelf
-use Rattle.mirror_core.specs.Rows.{Rows, rows_of, rows_after, taking_outcome}
+use Rattle.mirror_core.specs.{Rows.{Rows, rows_of, rows_after, taking_outcome}, declared.taken.Taken.Taken}
+use Rattle.mirror_core.specs.declared.{terms_refusal.MirrorRefusal.MirrorRefusal, report.CertReport.CertReport}
+use Rattle.mirror_core.specs.{declared.report.MicroReport.MicroReport, Extent.{begin_of, consensus_part}, Inputs.AreAll}
+use Rattle.mirror_core.specs.{Inputs.FailsWith, Signers.{AreSignersOf, keys_of}, States.{HeldConsensus, KeptCert}}
+use Rattle.mirror_core.specs.States.{Mirrored, named, named_by}
 use Rattle.mirror_core.specs.Wanting as wanting
-use Rattle.mirror_core.specs.declared.taken.Taken.{Taken}
 use Rattle.mirror_core.specs.declared.taken.Taken.TheVariants as taken
-use Rattle.mirror_core.specs.declared.terms_refusal.MirrorRefusal.{MirrorRefusal}
 use Rattle.mirror_core.specs.declared.terms_refusal.MirrorRefusal.TheVariants as refusal
-use Rattle.mirror_core.specs.declared.report.CertReport.{CertReport}
-use Rattle.mirror_core.specs.declared.report.MicroReport.{MicroReport}
-use Rattle.mirror_core.specs.Inputs.{AreAll, FailsWith}
-use Rattle.mirror_core.specs.Signers.{AreSignersOf, keys_of}
-use Rattle.mirror_core.specs.States.{HeldConsensus, KeptCert, Mirrored, named, named_by}
 
 -- ---- certificates
 
@@ -185,24 +179,27 @@ pub record IsSignedByFew (rules : Rules) (before : Mirrored) (bytes : List ℕ) 
   pub roster_is : roster ≡ length before.roster
   pub few : over counted_report roster ≡ false
 
--- why no consensus was taken; each but want of memory only where those before it do not apply
-abbrev pub ConsensusRefused : Rules → Mirrored → List ℕ → MirrorRefusal → Type 0
-ConsensusRefused rules before bytes (refusal.Document fault) = consensus_of bytes ≡ Err (read.Frame fault)
-ConsensusRefused rules before bytes refusal.WrongFlavour =
+-- why the bytes that stand in an input from a place on were not taken; each but want of memory only where those before it do
+-- not apply
+abbrev pub ConsensusRefused : Rules → Mirrored → ℕ → List ℕ → MirrorRefusal → Type 0
+ConsensusRefused rules before begin bytes (refusal.Document fault) =
+    (found : FrameFault) × (consensus_of bytes ≡ Err (read.Frame found)) × (fault ≡ fault_behind begin found)
+ConsensusRefused rules before begin bytes refusal.WrongFlavour =
     (consensus : SignedConsensus) × (used : ℕ) × (consensus_of bytes ≡ Ok (consensus, used)) × (consensus.flavour ≡ Ns)
-ConsensusRefused rules before bytes (refusal.Older held) =
+ConsensusRefused rules before begin bytes (refusal.Older held) =
     (consensus : SignedConsensus) × IsMicrodesc bytes consensus × (held_from before.held ≡ Some held)
     × (consensus.facts.valid_after ≤ held)
-ConsensusRefused rules before bytes refusal.VerifierFault =
+ConsensusRefused rules before begin bytes refusal.VerifierFault =
     (consensus : SignedConsensus) × IsMicrodesc bytes consensus × (is_newer (held_from before.held) consensus ≡ true)
-ConsensusRefused rules before bytes (refusal.TooFewSigners counted_report roster) =
+ConsensusRefused rules before begin bytes (refusal.TooFewSigners counted_report roster) =
     IsSignedByFew rules before bytes counted_report roster
-ConsensusRefused rules before bytes refusal.Memory = Unit {0}
+ConsensusRefused rules before begin bytes refusal.Memory = Unit {0}
 
--- what taking a consensus answers
+-- what taking a consensus answers: of an input its consensus is taken, and what stands before it and behind it passed over
 abbrev pub AnswersConsensus : Rules → Mirrored → List ℕ → Result ℕ MirrorRefusal → Mirrored → Type 0
-AnswersConsensus rules before bytes (Ok count) after = TakesConsensus rules before bytes count after
-AnswersConsensus rules before bytes (Err why) after = ConsensusRefused rules before bytes why × (after ≡ before)
+AnswersConsensus rules before bytes (Ok count) after = TakesConsensus rules before (consensus_part bytes) count after
+AnswersConsensus rules before bytes (Err why) after =
+    ConsensusRefused rules before (begin_of bytes) (consensus_part bytes) why × (after ≡ before)
 
 -- the bytes of the held consensus
 abbrev pub consensus_text : Mirrored → Option (List ℕ)

@@ -1,10 +1,8 @@
 -- Documents of one kind, one behind the other to an input's end.
 use Rattle.std.specs.Prelude.{◌≡◌, ℕ, ◌+◌, List, [], ◌∷◌, drop, slice_range, Some, None, Result, Ok, Err}
-use Rattle.frame_terms.specs.declared.fault.FrameFault.{FrameFault}
-use Rattle.frame_terms.specs.declared.fault.ReadRefusal.{ReadRefusal}
+use Rattle.frame_terms.specs.declared.fault.{FrameFault.FrameFault, ReadRefusal.ReadRefusal}
 use Rattle.frame_terms.specs.declared.fault.ReadRefusal.TheVariants as read
-use Rattle.blank_lines.specs.Behind.{fault_behind}
-use Rattle.blank_lines.specs.Blanks.{after_blanks}
+use Rattle.blank_lines.specs.{Behind.fault_behind, Blanks.after_blanks}
 
 module _ {X : Type 0} (document_of : List ℕ → Result (X × ℕ) ReadRefusal) where
   -- A document stands in the input from a place on, with its text from its first item on, and ends before the next place.

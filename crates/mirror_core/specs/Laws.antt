@@ -2,8 +2,7 @@
 use Rattle.std.specs.Prelude.{◌≡◌, ◌≤◌, ℕ, length, true, false, List, [], All, Option, Some, None, is_some}
 use Rattle.std.specs.Str.{bytes_eq}
 use Rattle.sha2.specs.Sha256.{sha256}
-use Rattle.mirror_core.specs.Rows.{Rows, row_of, micro_of}
-use Rattle.mirror_core.specs.Wanting.{is_among, most_wanted}
+use Rattle.mirror_core.specs.{Rows.{Rows, row_of, micro_of}, Wanting.{is_among, most_wanted}}
 
 -- what a row has has the row's digest
 abbrev pub HasDigest : List ℕ × Option (List ℕ) → Type 0

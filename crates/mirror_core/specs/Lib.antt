@@ -3,6 +3,7 @@ pub mod Wanting
 pub mod Laws
 pub mod States
 pub mod Inputs
+pub mod Extent
 pub mod Signers
 pub mod Answers
 pub mod Sound

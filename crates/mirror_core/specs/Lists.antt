@@ -1,12 +1,9 @@
 -- Lists of calls of a mirror.
-use Rattle.std.specs.Prelude.{ℕ, List, [], ◌∷◌, Result}
+use Rattle.std.specs.Prelude.{ℕ, List, [], ◌∷◌, Result, ◌⊎◌}
 use Rattle.key_port.specs.Answers.{Rules}
-use Rattle.mirror_core.specs.declared.terms_refusal.MirrorRefusal.{MirrorRefusal}
-use Rattle.mirror_core.specs.declared.report.CertReport.{CertReport}
-use Rattle.mirror_core.specs.declared.report.MicroReport.{MicroReport}
-use Rattle.mirror_core.specs.Answers.{AnswersCerts, AnswersConsensus, AnswersMicros}
-use Rattle.mirror_core.specs.States.{Mirrored}
-use Rattle.std.specs.Prelude.{◌⊎◌}
+use Rattle.mirror_core.specs.declared.{terms_refusal.MirrorRefusal.MirrorRefusal, report.CertReport.CertReport}
+use Rattle.mirror_core.specs.{declared.report.MicroReport.MicroReport, Answers.{AnswersCerts, AnswersConsensus}}
+use Rattle.mirror_core.specs.{Answers.AnswersMicros, States.Mirrored}
 
 -- a mirror was given certificates, a consensus or microdescriptors, and answered
 abbrev pub Calls : Rules → Mirrored → Mirrored → Type 0

@@ -1,9 +1,7 @@
 -- What reading documents answers.
 use Rattle.std.specs.Prelude.{◌≡◌, ℕ, ◌+◌, ◌<◌, ◌≤◌, List, drop, length, Result, Ok, Err}
-use Rattle.frame_terms.specs.declared.fault.FrameFault.{FrameFault}
-use Rattle.frame_terms.specs.declared.fault.ReadRefusal.{ReadRefusal}
+use Rattle.frame_terms.specs.{declared.fault.{FrameFault.FrameFault, ReadRefusal.ReadRefusal}, Refusals.Fails}
 use Rattle.frame_terms.specs.declared.fault.ReadRefusal.TheVariants as read
-use Rattle.frame_terms.specs.Refusals.{Fails}
 use Rattle.blank_lines.specs.Behind.{fault_behind}
 use Rattle.mirror_core.specs.Inputs.{FailsWith}
 

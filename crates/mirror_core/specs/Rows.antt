@@ -1,10 +1,7 @@
 -- Microdescriptors by the digests that a consensus names (dir-spec, "Computing microdescriptors"): a row for each of these digests, each once, ascending; with
 -- the microdescriptor where it is held.
-use Rattle.std.specs.Prelude.{ℕ, List, [], ◌∷◌, Option, Some, None}
-use Rattle.std.specs.Map.{lookup}
-use Rattle.std.specs.BTreeMap.{insert_entry, is_at}
-use Rattle.std.specs.Cmp.Lexicographic.{slice_cmp}
-use Rattle.std.specs.Ordering.{nat_cmp}
+use Rattle.std.specs.{Prelude.{ℕ, List, [], ◌∷◌, Option, Some, None}, Map.lookup, BTreeMap.{insert_entry, is_at}}
+use Rattle.std.specs.{Cmp.Lexicographic.slice_cmp, Ordering.nat_cmp}
 use Rattle.sha2.specs.Sha256.{sha256}
 use Rattle.mirror_core.specs.declared.taken.Taken.{Taken}
 use Rattle.mirror_core.specs.declared.taken.Taken.TheVariants as taken

@@ -1,8 +1,7 @@
 -- What a mirror gives.
 use Rattle.std.specs.Prelude.{◌≡◌, ℕ, true, List}
 use Rattle.sha2.specs.Sha256.{sha256}
-use Rattle.mirror_core.specs.Wanting.{is_among}
-use Rattle.mirror_core.specs.States.{Mirrored, named_by}
+use Rattle.mirror_core.specs.{Wanting.is_among, States.{Mirrored, named_by}}
 
 -- A text has this digest, and the held consensus names it.
 pub record IsNamedText (mirror : Mirrored) (digest text : List ℕ) : Type 0 where

@@ -5,8 +5,7 @@ use Rattle.sha2.specs.Sha256.{sha256}
 use Rattle.key_port.specs.Answers.{Rules}
 use Rattle.consensus_terms.specs.declared.consensus.SignedConsensus.{SignedConsensus}
 use Rattle.consensus_terms.specs.declared.signature.SignatureLine.{SignatureLine}
-use Rattle.detached_sigs.specs.declared.key.SignerKey.{SignerKey}
-use Rattle.detached_sigs.specs.Signers.{AreSigners}
+use Rattle.detached_sigs.specs.{declared.key.SignerKey.SignerKey, Signers.AreSigners}
 use Rattle.mirror_core.specs.States.{KeptCert}
 
 -- the authority of a certificate, with the signing key

@@ -2,17 +2,12 @@
 use Rattle.std.specs.Prelude.{◌≡◌, ℕ, true, List, [], length, All, AllPairs, Option, Some, None, slice_range}
 use Rattle.sha2.specs.Sha256.{sha256}
 use Rattle.count_terms.specs.Counts.{over}
-use Rattle.dir_values.specs.Digests.{identity_below}
-use Rattle.dir_values.specs.Rosters.{has_member}
-use Rattle.dir_values.specs.declared.digest.Fingerprint.{Fingerprint}
+use Rattle.dir_values.specs.{Digests.identity_below, Rosters.has_member, declared.digest.Fingerprint.Fingerprint}
 use Rattle.key_port.specs.Answers.{Rules}
-use Rattle.authority_certs.specs.Checks.{IsCertified}
+use Rattle.authority_certs.specs.{Checks.IsCertified, declared.cert.Cert.Cert}
 use Rattle.consensus_terms.specs.declared.signature.SignatureLine.{SignatureLine}
-use Rattle.detached_sigs.specs.declared.key.SignerKey.{SignerKey}
-use Rattle.detached_sigs.specs.Signers.{AreApart, has_good_line}
-use Rattle.mirror_core.specs.Laws.{AreRowsOf, HaveDigests}
-use Rattle.mirror_core.specs.Answers.{IsMicrodesc}
-use Rattle.mirror_core.specs.Signers.{sha256_lines}
+use Rattle.detached_sigs.specs.{declared.key.SignerKey.SignerKey, Signers.{AreApart, has_good_line}}
+use Rattle.mirror_core.specs.{Laws.{AreRowsOf, HaveDigests}, Answers.IsMicrodesc, Signers.sha256_lines}
 use Rattle.mirror_core.specs.States.{HeldConsensus, KeptCert, Mirrored, named_by}
 
 -- A certificate is of a member, and held at some moment.
@@ -20,6 +15,14 @@ pub record IsChecked (rules : Rules) (roster : List Fingerprint) (kept : KeptCer
   pub at : ℕ
   pub member : has_member roster kept.cert.fingerprint ≡ true
   pub certified : IsCertified rules at kept.cert
+
+-- A key is the signing key of its authority's certificate, which held at some moment.
+pub record IsCertifiedKey (rules : Rules) (key : SignerKey) : Type 0 where
+  pub cert : Cert
+  pub at : ℕ
+  pub certified : IsCertified rules at cert
+  pub authority_is : key.authority ≡ cert.fingerprint
+  pub key_is : key.key ≡ cert.signing_key
 
 -- certificates ascend by fingerprint, so that none is of the same authority as another
 abbrev pub CertsAscend : List KeptCert → Type 0
@@ -33,11 +36,12 @@ HaveLines rules bytes None lines signers = signers ≡ []
 HaveLines rules bytes (Some (begin, end)) lines signers =
     All (λ key. has_good_line rules (sha256 (slice_range bytes begin end)) lines key ≡ true) signers
 
--- A consensus is of the microdesc flavour, and is kept with keys of more than half of the roster, one of each authority,
--- for each of which it has a line that may be accepted.
+-- A consensus is of the microdesc flavour, and is kept with the certified signing keys of more than half of the roster, one
+-- of each authority, for each of which it has a line that may be accepted.
 pub record IsByMajority (rules : Rules) (roster : List Fingerprint) (held : HeldConsensus) : Type 0 where
   pub microdesc : IsMicrodesc held.bytes held.consensus
   pub members : All (λ key. has_member roster key.authority ≡ true) held.signers
+  pub certified : All (IsCertifiedKey rules) held.signers
   pub once : AllPairs AreApart held.signers
   pub lines : HaveLines rules held.bytes held.consensus.signed (sha256_lines held.consensus.signatures) held.signers
   pub majority : over (length held.signers) (length roster) ≡ true

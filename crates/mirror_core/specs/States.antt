@@ -1,12 +1,8 @@
 -- What a mirror holds.
-use Rattle.std.specs.Prelude.{ℕ, List, [], Option, Some, None}
-use Rattle.std.specs.List.{filter_map}
-use Rattle.std.specs.Option.{option_map}
-use Rattle.dir_values.specs.declared.digest.Fingerprint.{Fingerprint}
-use Rattle.dir_values.specs.declared.digest.Digest2.{Digest2}
+use Rattle.std.specs.{Prelude.{ℕ, List, [], Option, Some, None}, List.filter_map, Option.option_map}
+use Rattle.dir_values.specs.declared.digest.{Fingerprint.Fingerprint, Digest2.Digest2}
 use Rattle.authority_certs.specs.declared.cert.Cert.{Cert}
-use Rattle.consensus_terms.specs.declared.consensus.SignedConsensus.{SignedConsensus}
-use Rattle.consensus_terms.specs.declared.router.Routerline.{Routerline}
+use Rattle.consensus_terms.specs.declared.{consensus.SignedConsensus.SignedConsensus, router.Routerline.Routerline}
 use Rattle.detached_sigs.specs.declared.key.SignerKey.{SignerKey}
 use Rattle.mirror_core.specs.Rows.{Rows}
 

@@ -1,7 +1,6 @@
 -- How many documents a report tells of.
 use Rattle.std.specs.Prelude.{ℕ, ◌+◌}
-use Rattle.mirror_core.specs.declared.report.CertReport.{CertReport}
-use Rattle.mirror_core.specs.declared.report.MicroReport.{MicroReport}
+use Rattle.mirror_core.specs.declared.report.{CertReport.CertReport, MicroReport.MicroReport}
 
 -- of how many microdescriptors
 abbrev pub total : MicroReport → ℕ

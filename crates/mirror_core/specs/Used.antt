@@ -1,9 +1,7 @@
 -- How many bytes a document has that was read (dir-spec, "Document meta-format").
 use Rattle.std.specs.Prelude.{◌≡◌, ℕ, ◌<◌, List, length, Ok}
 use Rattle.item_terms.specs.Items.{items_of}
-use Rattle.frame_terms.specs.declared.document.Taken.{Taken}
-use Rattle.frame_terms.specs.Documents.{document_of, finish}
-use Rattle.frame_terms.specs.Tables.{Tables}
+use Rattle.frame_terms.specs.{declared.document.Taken.Taken, Documents.{document_of, finish}, Tables.Tables}
 
 module _ {S K V X F : Type 0} where
   -- Where an input has a byte, a document of these tables that is read of it has one, whatever is kept of the document.

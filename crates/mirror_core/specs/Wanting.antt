@@ -1,6 +1,5 @@
 -- Which microdescriptors are asked for next.
-use Rattle.std.specs.Prelude.{ℕ, ◌||◌, Bool, List, [], ◌∷◌, ◌++◌, take, is_some, if◌then◌else◌}
-use Rattle.std.specs.List.{list_any}
+use Rattle.std.specs.{Prelude.{ℕ, ◌||◌, Bool, List, [], ◌∷◌, ◌++◌, take, is_some, if◌then◌else◌}, List.list_any}
 use Rattle.std.specs.Str.{bytes_eq}
 use Rattle.mirror_core.specs.Rows.{Rows, micro_of}
 

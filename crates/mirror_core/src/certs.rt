@@ -3,10 +3,8 @@ ghost use Rattle.std.specs.Prelude.{◌≡◌, ◌≢◌, ◌+◌, ◌-◌, ◌<
 ghost use Rattle.dir_bytes.specs.Causes.{Rose};
 ghost use Rattle.key_port.specs.Answers.{rules};
 ghost use Rattle.mirror_core.specs.Answers as answers;
-ghost use Rattle.mirror_core.specs.Answers.{TakesCert, TakesChecked, TakesEach};
-ghost use Rattle.mirror_core.specs.Sound.{CertsAscend};
-ghost use Rattle.mirror_core.specs.Tallies.{cert_total};
-ghost use Rattle.mirror_core.specs.Lending.{IsNoSigning};
+ghost use Rattle.mirror_core.specs.{Answers.{TakesCert, TakesChecked, TakesEach}, Sound.CertsAscend};
+ghost use Rattle.mirror_core.specs.{Tallies.cert_total, Lending.IsNoSigning};
 
 use crate::cert::HeldCert;
 use crate::cert_copies::with_cert;
@@ -29,8 +27,7 @@ pub(crate) struct Tally {
 }
 
 impl Model for Tally {
-    ghost use Rattle.mirror_core.specs.Answers.{CertTally};
-    ghost use Rattle.mirror_core.specs.Sound.{CertsAscend};
+    ghost use Rattle.mirror_core.specs.{Answers.CertTally, Sound.CertsAscend};
 
     ghost Value = { CertTally };
 

@@ -1,30 +1,36 @@
 // A consensus that a mirror is given.
 ghost use Rattle.std.specs.Prelude.{◌≡◌, ◌<◌, ◌≤◌, ◌^◌, ◌++◌, true, length, map, IfOk, OnOk, IfErr, MatchResult};
+ghost use Rattle.std.specs.Option.{option_to_list};
 ghost use Rattle.count_terms.specs.Counts as counts;
 ghost use Rattle.mirror_core.specs.Answers as answers;
-ghost use Rattle.mirror_core.specs.Answers.{IsMicrodesc};
+ghost use Rattle.mirror_core.specs.{Answers.IsMicrodesc, Lending.{IsNoMicrodesc, IsNotNewer}};
 ghost use Rattle.mirror_core.specs.States as states;
-ghost use Rattle.std.specs.Option.{option_to_list};
-ghost use Rattle.mirror_core.specs.Lending.{IsNoMicrodesc, IsNotNewer};
 
 use crate::refusal::of_read;
 use crate::terms_refusal::MirrorRefusal;
+use blank_lines::refusal_behind;
 use consensus_terms::{Flavour, Routerline, SignedConsensus};
 use dir_bytes::Memory;
 use dir_values::Digest2;
 use std::alloc::Global;
 
-/// The microdesc consensus that the bytes are.
-pub(crate) fn read_microdesc(alloc: Global, bytes: &[u8]) -> Result<SignedConsensus, MirrorRefusal>
-    requires { length bytes.now < 2 ^ 62 }
-    ensures { MatchResult result (IsMicrodesc bytes.now) (IsNoMicrodesc bytes.now) }
+/// The microdesc consensus that the bytes are, which stand in an input from a place on.
+#[tactic(auto, using(crate::proofs::TakenConsensus::fits_behind, crate::proofs::TakenConsensus::not_read))]
+pub(crate) fn read_microdesc(
+    alloc: Global,
+    begin: u64,
+    bytes: &[u8],
+) -> Result<SignedConsensus, MirrorRefusal>
+    requires begin { begin < 2 ^ 62 }
+    requires bytes { length bytes.now < 2 ^ 62 }
+    ensures { MatchResult result (IsMicrodesc bytes.now) (IsNoMicrodesc begin bytes.now) }
 {
     match consensus_doc::read(alloc, bytes) {
         Ok((consensus, _)) => match consensus.flavour {
             Flavour::Microdesc => Ok(consensus),
             Flavour::Ns => Err(MirrorRefusal::WrongFlavour),
         },
-        Err(refusal) => Err(of_read(refusal)),
+        Err(refusal) => Err(of_read(refusal_behind(begin, refusal))),
     }
 }
 

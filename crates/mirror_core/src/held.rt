@@ -20,8 +20,7 @@ pub(crate) struct Held {
 }
 
 impl Model for Held {
-    ghost use Rattle.mirror_core.specs.States.{HeldConsensus};
-    ghost use Rattle.mirror_core.specs.Lending.{IsKeptOf};
+    ghost use Rattle.mirror_core.specs.{States.HeldConsensus, Lending.IsKeptOf};
 
     ghost Value = { HeldConsensus };
 

@@ -2,8 +2,7 @@
 ghost use Rattle.std.specs.Prelude.{◌≡◌, ◌<◌, ◌≤◌, ◌^◌, ℕ, List, length, slice_range, MatchResult, IfOk, IfErr};
 ghost use Rattle.std.specs.declared.result.Result.{Result};
 ghost use Rattle.frame_terms.specs.declared.fault.ReadRefusal.{ReadRefusal};
-ghost use Rattle.mirror_core.specs.Inputs.{AreAll};
-ghost use Rattle.mirror_core.specs.Reads.{IsWithin, ReadsOne, ReadsAt, RefusesAll};
+ghost use Rattle.mirror_core.specs.{Inputs.AreAll, Reads.{IsWithin, ReadsOne, ReadsAt, RefusesAll}};
 
 use blank_lines::{after_blanks, fault_behind};
 use bytes::Bytes;

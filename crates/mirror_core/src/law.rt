@@ -2,15 +2,11 @@
 ghost use Rattle.std.specs.Prelude.{◌≡◌, ℕ, List, All, Some, Err};
 ghost use Rattle.dir_values.specs.declared.digest.Fingerprint.{Fingerprint};
 ghost use Rattle.key_port.specs.Answers.{Rules};
-ghost use Rattle.mirror_core.specs.declared.terms_refusal.MirrorRefusal.{MirrorRefusal};
-ghost use Rattle.mirror_core.specs.Answers.{AnswersCerts, AnswersConsensus, AnswersMicros, micro_with};
-ghost use Rattle.mirror_core.specs.Lists.{CallsLeave};
-ghost use Rattle.mirror_core.specs.Sound.{IsSound};
-ghost use Rattle.mirror_core.specs.States.{Mirrored, no_mirror};
+ghost use Rattle.mirror_core.specs.{declared.terms_refusal.MirrorRefusal.MirrorRefusal, Answers.AnswersCerts};
+ghost use Rattle.mirror_core.specs.{Answers.{AnswersConsensus, AnswersMicros, micro_with}, Lists.CallsLeave};
+ghost use Rattle.mirror_core.specs.{Sound.IsSound, States.{Mirrored, no_mirror}, Bytes.HaveBytes, Served.IsNamedText};
 ghost use Rattle.authority_certs.specs.Reading.{cert_of};
 ghost use Rattle.micro_desc.specs.Reading.{micro_of};
-ghost use Rattle.mirror_core.specs.Bytes.{HaveBytes};
-ghost use Rattle.mirror_core.specs.Served.{IsNamedText};
 
 /// After every list of calls: the certificates that are kept were checked, one of each member at most; the consensus that is held
 /// is of the microdesc flavour, and more than half of the roster signed it, each counted once; and each microdescriptor that is

@@ -9,6 +9,7 @@ mod cert;
 mod cert_copies;
 mod certs;
 mod consensus;
+mod extent;
 mod held;
 mod inputs;
 mod kinds;

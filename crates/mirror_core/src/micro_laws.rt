@@ -1,7 +1,6 @@
 // Laws of rows.
 ghost use Rattle.std.specs.Prelude.{ℕ, List, AllPairs};
-ghost use Rattle.mirror_core.specs.Laws.{AreRowsOf, AreWanted, Differ, HaveDigests};
-ghost use Rattle.mirror_core.specs.Rows.{Rows, rows_after, rows_of};
+ghost use Rattle.mirror_core.specs.{Laws.{AreRowsOf, AreWanted, Differ, HaveDigests}, Rows.{Rows, rows_after, rows_of}};
 ghost use Rattle.mirror_core.specs.Wanting.{missing_digests, first_missing};
 
 /// What is wanted is named and not held, each digest once; nothing is wanted exactly where each that is named is held.

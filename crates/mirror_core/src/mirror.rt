@@ -3,16 +3,15 @@ ghost use Rattle.std.specs.Prelude.{◌≡◌, ◌≤◌, ◌<◌, ◌-◌, ◌^
 ghost use Rattle.dir_bytes.specs.Causes.{Rose};
 ghost use Rattle.key_port.specs.Answers.{rules};
 ghost use Rattle.mirror_core.specs.Answers as answers;
-ghost use Rattle.mirror_core.specs.Answers.{AnswersCerts, AnswersConsensus, AnswersMicros};
-ghost use Rattle.mirror_core.specs.Answers.{IsSignedBy};
-ghost use Rattle.mirror_core.specs.States as states;
-ghost use Rattle.mirror_core.specs.Rows.{rows_of};
+ghost use Rattle.mirror_core.specs.{Answers.{AnswersCerts, AnswersConsensus, AnswersMicros, IsSignedBy}, Rows.rows_of};
 ghost use Rattle.mirror_core.specs.Lending.{IsMajority, IsMinority, IsUnsigned};
+ghost use Rattle.mirror_core.specs.States as states;
 
 use crate::cert::HeldCert;
 use crate::cert_copies::copies;
 use crate::certs;
 use crate::consensus::{check_newer, digests_of, named, over, read_microdesc};
+use crate::extent::{begin_of, consensus_part};
 use crate::held::Held;
 use crate::inputs::read_all;
 use crate::kinds::{Certs, Micros};
@@ -53,9 +52,8 @@ pub struct Mirror<V: Verifier> {
 }
 
 impl<V: Verifier> Model for Mirror<V> {
-    ghost use Rattle.mirror_core.specs.States.{Mirrored};
+    ghost use Rattle.mirror_core.specs.{States.Mirrored, Sound.IsSound};
     ghost use Rattle.key_port.specs.Answers.{rules};
-    ghost use Rattle.mirror_core.specs.Sound.{IsSound};
 
     ghost Value = { Mirrored };
 
@@ -123,16 +121,17 @@ impl<V: Verifier> Mirror<V> {
         }
     }
 
-    /// The newer consensus of the microdesc flavour that the bytes are, and who signed it.
-    fn signed(&self, bytes: &[u8], verifier: &mut V) -> Result<Signed, MirrorRefusal>
-        requires { length bytes.now < 2 ^ 62 }
+    /// The newer consensus of the microdesc flavour that the bytes are, which stand in an input from a place on, and who signed it.
+    fn signed(&self, begin: u64, bytes: &[u8], verifier: &mut V) -> Result<Signed, MirrorRefusal>
+        requires begin { begin < 2 ^ 62 }
+        requires bytes { length bytes.now < 2 ^ 62 }
         ensures ok { IfOk result (λ signed. IsSignedBy (rules V.may_accept V.may_refuse) self.now bytes.now signed.consensus signed.signers.items) }
-        ensures err { IfErr result (IsUnsigned (rules V.may_accept V.may_refuse) self.now bytes.now) }
+        ensures err { IfErr result (IsUnsigned (rules V.may_accept V.may_refuse) self.now begin bytes.now) }
         ensures fault { result ≡ Err MirrorRefusal.VerifierFault → Rose (V.faults verifier.old) (V.faults verifier.new) }
         ensures faults { V.faults verifier.old ≤ V.faults verifier.new }
         ensures told { V.faults verifier.old < V.faults verifier.new → result ≡ Err MirrorRefusal.VerifierFault }
     {
-        let consensus = match read_microdesc(self.alloc, bytes) {
+        let consensus = match read_microdesc(self.alloc, begin, bytes) {
             Ok(consensus) => consensus,
             Err(why) => return Err(why),
         };
@@ -162,14 +161,14 @@ impl<V: Verifier> Mirror<V> {
     }
 
     /// What is held once a consensus is taken: it, and of the microdescriptors that are held those that it names.
-    fn holding(&self, bytes: &Bytes, signed: Signed) -> Result<(Held, Shelf), Memory>
+    fn holding(&self, bytes: &[u8], signed: Signed) -> Result<(Held, Shelf), Memory>
         ensures held { IfOk result (λ found. found.0 ≡ record { bytes = bytes.now; consensus = signed.consensus; signers = signed.signers.items }) }
         ensures rows { IfOk result (λ found. found.1 ≡ rows_of self.now.rows (states.named signed.consensus)) }
     {
         let digests = named(self.alloc, &signed.consensus)?;
         let shelf = self.shelf.over(self.alloc, &digests)?;
         let held = Held {
-            bytes: bytes.clone()?,
+            bytes: Bytes::copy_from_slice(self.alloc, bytes)?,
             valid_after: signed.consensus.facts.valid_after,
             digests,
             signers: signed.signers,
@@ -179,19 +178,21 @@ impl<V: Verifier> Mirror<V> {
     }
 
     /// Takes a consensus of the microdesc flavour that is newer than the one that is held, and that more than half of the roster
-    /// signed, by the certificates that are kept. Of the microdescriptors those stay that it names. The answer is how many
-    /// signed it (dir-spec, "Downloading consensus status documents from directory authorities").
+    /// signed, by the certificates that are kept. It is kept from its first item through its last signature; what an input has
+    /// before it and behind it is passed over. Of the microdescriptors those stay that it names. The answer is how many signed it
+    /// (dir-spec, "Downloading consensus status documents from directory authorities").
     ///
     /// # Errors
     /// The first cause that applies, in the order of `MirrorRefusal`; then nothing has changed.
-    pub fn take_consensus(&mut self, bytes: &Bytes, verifier: &mut V) -> Result<u32, MirrorRefusal>
+    pub fn take_consensus(&mut self, bytes: &[u8], verifier: &mut V) -> Result<u32, MirrorRefusal>
         requires { length bytes.now < 2 ^ 62 }
         ensures answers { AnswersConsensus (rules V.may_accept V.may_refuse) self.old bytes.now result self.new }
         ensures fault { result ≡ Err MirrorRefusal.VerifierFault → Rose (V.faults verifier.old) (V.faults verifier.new) }
         ensures faults { V.faults verifier.old ≤ V.faults verifier.new }
         ensures told { V.faults verifier.old < V.faults verifier.new → result ≡ Err MirrorRefusal.VerifierFault }
     {
-        let signed = match self.signed(bytes.as_slice(), verifier) {
+        let part = consensus_part(bytes);
+        let signed = match self.signed(begin_of(bytes), part, verifier) {
             Ok(signed) => signed,
             Err(why) => return Err(why),
         };
@@ -199,7 +200,7 @@ impl<V: Verifier> Mirror<V> {
             Ok(counted) => counted,
             Err(why) => return Err(why),
         };
-        match self.holding(bytes, signed) {
+        match self.holding(part, signed) {
             Ok((held, shelf)) => {
                 self.held = Some(held);
                 self.shelf = shelf;

@@ -3,9 +3,7 @@ ghost use Rattle.std.specs.Prelude.{◌≡◌, ◌≢◌, ◌≤◌, ◌<◌, �
 ghost use Rattle.dir_bytes.specs.Causes.{Rose};
 ghost use Rattle.key_port.specs.Answers.{rules};
 ghost use Rattle.mirror_core.specs.Signers as signers;
-ghost use Rattle.mirror_core.specs.Signers.{AreSignersOf};
-ghost use Rattle.mirror_core.specs.Sound.{CertsAscend};
-ghost use Rattle.mirror_core.specs.Lending.{IsNoSigning};
+ghost use Rattle.mirror_core.specs.{Signers.AreSignersOf, Sound.CertsAscend, Lending.IsNoSigning};
 
 use crate::cert::{HeldCert, keys_of};
 use crate::terms_refusal::MirrorRefusal;

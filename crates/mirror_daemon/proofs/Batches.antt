@@ -1,14 +1,11 @@
 -- A mirror lacks fewer microdescriptors after a batch of which one was kept.
 use Rattle.std.proofs.Common.{◌≡◌, ℕ, ◌+◌, ◌<◌, ◌≤◌, List, [], ◌∷◌, refl, sym, ap, subst, arith}
 use Rattle.micro_desc.specs.declared.micro.Micro.{Micro}
-use Rattle.mirror_core.specs.Rows.{rows_by, taking_outcome}
-use Rattle.mirror_core.specs.declared.taken.Taken.{Taken}
+use Rattle.mirror_core.specs.{Rows.{rows_by, taking_outcome}, declared.taken.Taken.Taken}
+use Rattle.mirror_core.specs.{declared.report.MicroReport.MicroReport, Answers.{MicroTally, TakesMicros}}
+use Rattle.mirror_core.specs.{Answers.{counted_report, no_micros_yet, with_micro, with_micros}, States.Mirrored}
 use Rattle.mirror_core.specs.declared.taken.Taken.TheVariants as taken
-use Rattle.mirror_core.specs.Answers.{MicroTally, TakesMicros, counted_report, no_micros_yet, with_micro, with_micros}
-use Rattle.mirror_core.specs.States.{Mirrored}
-use Rattle.mirror_core.specs.declared.report.MicroReport.{MicroReport}
-use Rattle.mirror_daemon.specs.Lacking.{lacking_count, rows_lacking}
-use Rattle.mirror_daemon.proofs.Rows.{kept_fewer}
+use Rattle.mirror_daemon.{specs.Lacking.{lacking_count, rows_lacking}, proofs.Rows.kept_fewer}
 
 -- what was lacking, less what was kept, is no less than what is lacking
 abbrev Bounds : MicroTally → MicroTally → Type 0

@@ -1,13 +1,9 @@
 -- Lists of calls of a mirror, and one call more.
-use Rattle.std.proofs.Common.{◌≡◌, List, [], ◌∷◌, ◌++◌, refl, sym, subst, inl, inr}
-use Rattle.std.specs.Prelude.{ℕ, Result}
+use Rattle.std.{proofs.Common.{◌≡◌, List, [], ◌∷◌, ◌++◌, refl, sym, subst, inl, inr}, specs.Prelude.{ℕ, Result}}
 use Rattle.key_port.specs.Answers.{Rules}
-use Rattle.mirror_core.specs.Answers.{AnswersCerts, AnswersConsensus, AnswersMicros}
-use Rattle.mirror_core.specs.Lists.{Calls, CallsLeave}
-use Rattle.mirror_core.specs.States.{Mirrored}
-use Rattle.mirror_core.specs.declared.terms_refusal.MirrorRefusal.{MirrorRefusal}
-use Rattle.mirror_core.specs.declared.report.CertReport.{CertReport}
-use Rattle.mirror_core.specs.declared.report.MicroReport.{MicroReport}
+use Rattle.mirror_core.specs.{Answers.{AnswersCerts, AnswersConsensus, AnswersMicros}, Lists.{Calls, CallsLeave}}
+use Rattle.mirror_core.specs.{States.Mirrored, declared.terms_refusal.MirrorRefusal.MirrorRefusal}
+use Rattle.mirror_core.specs.declared.report.{CertReport.CertReport, MicroReport.MicroReport}
 use Rattle.mirror_daemon.specs.Keeping.{ComesOf, last_of}
 
 leave_more : (rules : Rules) (before : Mirrored) (mirrors : List Mirrored) (next : Mirrored) → CallsLeave rules before mirrors

@@ -1,8 +1,6 @@
 -- What clap's values tell of a mirror.
-use Rattle.std.proofs.Common.{◌≡◌, ℕ, List, [], ◌∷◌, Option, Some, None, refl, ap, ◌∙◌}
-use Rattle.std.specs.Prelude.{codes}
-use Rattle.clap.specs.Words.{Kinds, Row, first_of, first_value, rows_of}
-use Rattle.clap.specs.declared.parser.matches.Found.{Found}
+use Rattle.std.{proofs.Common.{◌≡◌, ℕ, List, [], ◌∷◌, Option, Some, None, refl, ap, ◌∙◌}, specs.Prelude.codes}
+use Rattle.clap.specs.{Words.{Kinds, Row, first_of, first_value, rows_of}, declared.parser.matches.Found.Found}
 use Rattle.daemon_words.proofs.Named.{option_is}
 use Rattle.mirror_daemon.specs.Words.{words_in, words_of, words_read, words_with}
 

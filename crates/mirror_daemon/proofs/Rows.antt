@@ -1,17 +1,12 @@
 -- A mirror lacks fewer microdescriptors with each that is kept.
-use Rattle.std.proofs.Common.{◌≡◌, ℕ, ◌+◌, ◌<◌, ◌≤◌, Bool, true, false, List, [], ◌∷◌, Option, Some, None, refl, sym, ap, subst, ◌∙◌, arith}
-use Rattle.std.specs.Prelude.{if◌then◌else◌, cond, is_some}
-use Rattle.std.proofs.lemmas.Map.Lookups.{exact_bytes}
-use Rattle.std.specs.Cmp.{Equal-is, tied_itself}
-use Rattle.std.specs.BTreeMap.{is_at}
-use Rattle.std.specs.Cmp.Lexicographic.{nat_list_cmp_total, slice_cmp}
-use Rattle.std.specs.Ordering.{is_eq, match_ordering, nat_cmp}
-use Rattle.std.specs.declared.cmp.Ordering.{Ordering}
-use Rattle.std.specs.declared.cmp.Ordering.TheVariants.{Less, Equal, Greater}
+use Rattle.std.proofs.Common.{◌≡◌, ℕ, ◌+◌, ◌<◌, ◌≤◌, Bool, true, false, List, [], ◌∷◌, Option, Some, None, refl, sym}
+use Rattle.std.{proofs.{Common.{ap, subst, ◌∙◌, arith}, lemmas.Map.Lookups.exact_bytes}, specs.Prelude.if◌then◌else◌}
+use Rattle.std.specs.{Prelude.{cond, is_some}, Cmp.{Equal-is, tied_itself, Lexicographic.nat_list_cmp_total}}
+use Rattle.std.specs.{Cmp.Lexicographic.slice_cmp, BTreeMap.is_at, Ordering.{is_eq, match_ordering, nat_cmp}}
+use Rattle.std.specs.declared.cmp.Ordering.{Ordering, TheVariants.{Less, Equal, Greater}}
 use Rattle.sha2.specs.Sha256.{sha256}
-use Rattle.mirror_core.specs.Rows.{Rows, row_of, taken_by, taking_outcome, with_row}
+use Rattle.mirror_core.{specs.Rows.{Rows, row_of, taken_by, taking_outcome, with_row}, proofs.RowLaws.row_more}
 use Rattle.mirror_core.specs.declared.taken.Taken.TheVariants as taken
-use Rattle.mirror_core.proofs.RowLaws.{row_more}
 use Rattle.mirror_daemon.specs.Lacking.{has_no_text, is_lacking, rows_lacking, rows_where}
 
 abbrev finds : List ℕ → List ℕ → Bool

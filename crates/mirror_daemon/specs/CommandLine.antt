@@ -1,6 +1,5 @@
 -- The command line, as clap reads it.
-use Rattle.std.specs.Prelude.{true, List, String, string_bytes, map, codes}
-use Rattle.std.specs.Global.{Global}
+use Rattle.std.specs.{Prelude.{true, List, String, string_bytes, map, codes}, Global.Global}
 use Rattle.clap.specs.Words.{App, Kinds, Row, fault_of, matches_of, new_app, with_rule}
 use Rattle.daemon_words.specs.CommandLine.{needed_option}
 

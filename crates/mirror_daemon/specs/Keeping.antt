@@ -1,8 +1,7 @@
 -- What a mirror comes to while it is kept.
 use Rattle.std.specs.Prelude.{◌≡◌, List, [], ◌∷◌}
 use Rattle.key_port.specs.Answers.{Rules}
-use Rattle.mirror_core.specs.Lists.{CallsLeave}
-use Rattle.mirror_core.specs.States.{Mirrored}
+use Rattle.mirror_core.specs.{Lists.CallsLeave, States.Mirrored}
 
 -- the last of some mirrors, and the one before where there are none
 abbrev pub last_of : Mirrored → List Mirrored → Mirrored

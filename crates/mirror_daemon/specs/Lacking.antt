@@ -1,7 +1,6 @@
 -- How many microdescriptors a mirror lacks.
 use Rattle.std.specs.Prelude.{ℕ, ◌+◌, Bool, true, false, List, [], ◌∷◌, Option, Some, None, if◌then◌else◌}
-use Rattle.mirror_core.specs.Rows.{Rows, row_of}
-use Rattle.mirror_core.specs.States.{Mirrored}
+use Rattle.mirror_core.specs.{Rows.{Rows, row_of}, States.Mirrored}
 
 -- whether a row is there, and has no text
 abbrev pub has_no_text : Option (Option (List ℕ)) → Bool

@@ -1,10 +1,7 @@
 -- What the private functions of this crate say.
-use Rattle.std.specs.Prelude.{◌≡◌, List, [], String}
-use Rattle.std.specs.declared.option.Option.{Option}
-use Rattle.std.specs.declared.option.Option.TheVariants.{Some, None}
+use Rattle.std.specs.{Prelude.{◌≡◌, List, [], String}, declared.option.Option.{Option, TheVariants.{Some, None}}}
 use Rattle.std.specs.Global.{Global}
-use Rattle.clap.specs.Words.{found_of, rows_of}
-use Rattle.clap.specs.declared.parser.matches.ArgMatches.{ArgMatches}
+use Rattle.clap.specs.{Words.{found_of, rows_of}, declared.parser.matches.ArgMatches.ArgMatches}
 use Rattle.mirror_daemon.specs.CommandLine.{faults, options}
 
 -- what was read of words that are of the command line, or nothing of others

@@ -1,7 +1,6 @@
 -- The line that each status of a mirror writes, and its number.
 use Rattle.std.specs.Prelude.{ℕ, List, [], ◌∷◌, ◌++◌, Option, codes}
-use Rattle.dir_bytes.specs.Streams.{WritesAll}
-use Rattle.dir_bytes.specs.declared.writing.WriteAll.{WriteAll}
+use Rattle.dir_bytes.specs.{Streams.WritesAll, declared.writing.WriteAll.WriteAll}
 use Rattle.item_terms.specs.Bytes.{line_feed}
 use Rattle.mirror_daemon.specs.declared.status.MirrorStatus.{MirrorStatus}
 use Rattle.mirror_daemon.specs.declared.status.MirrorStatus.TheVariants as status

@@ -1,8 +1,6 @@
 -- What a mirror asks its peers for (dir-spec, "General-use HTTP URLs").
-use Rattle.std.specs.Prelude.{ℕ, List, [], ◌∷◌, ◌++◌, codes}
-use Rattle.std.specs.List.{flat_map}
-use Rattle.dir_values.specs.Digests.{digest2_text}
-use Rattle.dir_values.specs.declared.digest.Digest2.{Digest2}
+use Rattle.std.specs.{Prelude.{ℕ, List, [], ◌∷◌, ◌++◌, codes}, List.flat_map}
+use Rattle.dir_values.specs.{Digests.digest2_text, declared.digest.Digest2.Digest2}
 
 -- a digest behind a hyphen
 abbrev pub behind_hyphen : Digest2 → List ℕ

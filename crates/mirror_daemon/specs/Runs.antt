@@ -1,10 +1,9 @@
 -- How a run of a mirror ends, by its words and its gate.
 use Rattle.std.specs.Prelude.{◌≡◌, ℕ, Bool, true, Option, None, is_some}
 use Rattle.dir_bytes.specs.Causes.{Rose}
-use Rattle.mirror_daemon.specs.declared.status.MirrorStatus.{MirrorStatus}
-use Rattle.mirror_daemon.specs.declared.status.MirrorStatus.TheVariants as status
-use Rattle.mirror_daemon.specs.declared.words.MirrorWords.{MirrorWords}
+use Rattle.mirror_daemon.specs.declared.{status.MirrorStatus.MirrorStatus, words.MirrorWords.MirrorWords}
 use Rattle.mirror_daemon.specs.declared.outside.MirrorOutside.{MirrorOutside}
+use Rattle.mirror_daemon.specs.declared.status.MirrorStatus.TheVariants as status
 
 -- Nothing outside was asked but the errors sink.
 pub record IsUntouched {C V G L E : Type 0} (before then : MirrorOutside C V G L E) : Type 0 where

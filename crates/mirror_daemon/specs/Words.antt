@@ -1,14 +1,11 @@
 -- The grammar of the words of a mirror.
 use Rattle.std.specs.Prelude.{ℕ, ◌&&◌, nat_le, List, [], ◌∷◌, String, length, Option, Some, None, codes, if◌then◌else◌}
-use Rattle.std.specs.List.{list_all}
-use Rattle.std.specs.Global.{Global}
+use Rattle.std.specs.{List.list_all, Global.Global}
 use Rattle.clap.specs.Words.{Kinds, Row, first_of}
 use Rattle.dir_values.specs.declared.digest.Fingerprint.{Fingerprint}
 use Rattle.list_values.specs.Parts.{parts_of}
-use Rattle.daemon_words.specs.Serving.{is_address}
-use Rattle.daemon_words.specs.Values.{roster}
-use Rattle.mirror_daemon.specs.CommandLine.{faults, options}
-use Rattle.mirror_daemon.specs.declared.words.MirrorWords.{MirrorWords}
+use Rattle.daemon_words.specs.{Serving.is_address, Values.roster}
+use Rattle.mirror_daemon.specs.{CommandLine.{faults, options}, declared.words.MirrorWords.MirrorWords}
 
 -- so many peers are asked at most
 abbrev pub most_peers : ℕ

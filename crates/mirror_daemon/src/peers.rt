@@ -1,6 +1,5 @@
 // The addresses of the peers.
-ghost use Rattle.std.specs.Prelude.{◌≡◌, IfOk};
-ghost use Rattle.std.specs.Option.{option_map};
+ghost use Rattle.std.specs.{Prelude.{◌≡◌, IfOk}, Option.option_map};
 ghost use Rattle.mirror_daemon.specs.Words as words;
 
 use daemon_words::is_address;

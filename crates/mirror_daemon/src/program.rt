@@ -1,8 +1,7 @@
 // The program of a mirror over what stands outside.
 ghost use Rattle.std.specs.Prelude.{◌≡◌, Some};
-ghost use Rattle.mirror_daemon.specs.Lines.{Writes, line_of};
-ghost use Rattle.mirror_daemon.specs.Words.{mirror_words};
-ghost use Rattle.mirror_daemon.specs.Runs.{IsRun, IsUntouched, LeavesAll};
+ghost use Rattle.mirror_daemon.specs.{Lines.{Writes, line_of}, Words.mirror_words, Runs.{IsRun, IsUntouched}};
+ghost use Rattle.mirror_daemon.specs.Runs.{LeavesAll};
 
 use crate::keeping::keep_mirror;
 use crate::outside::MirrorOutside;

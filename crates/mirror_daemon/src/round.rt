@@ -2,9 +2,7 @@
 ghost use Rattle.std.specs.Prelude.{◌≡◌, ◌<◌, ◌≤◌, true};
 ghost use Rattle.key_port.specs.Answers.{rules};
 ghost use Rattle.mirror_core.specs.States.{Mirrored};
-ghost use Rattle.mirror_daemon.specs.Asking.{IsWithin};
-ghost use Rattle.mirror_daemon.specs.Keeping.{ComesOf};
-ghost use Rattle.mirror_daemon.specs.Lacking.{lacking_count};
+ghost use Rattle.mirror_daemon.specs.{Asking.IsWithin, Keeping.ComesOf, Lacking.lacking_count};
 
 use crate::asking::{Given, ask};
 use crate::paths::{CERTS_PATH, CONSENSUS_PATH, micros_path};

@@ -1,10 +1,8 @@
 -- What a mirror gives is what it holds.
-use Rattle.std.proofs.Common.{◌≡◌, ℕ, List, [], ◌∷◌, Option, Some, None, sym}
-use Rattle.std.proofs.lemmas.Option.{none-some, same_Some}
+use Rattle.std.proofs.{Common.{◌≡◌, ℕ, List, [], ◌∷◌, Option, Some, None, sym}, lemmas.Option.{none-some, same_Some}}
 use Rattle.key_port.specs.Answers.{Rules}
 use Rattle.http_words.specs.Found.{unless_empty}
-use Rattle.mirror_core.specs.Answers.{certs_text, consensus_text}
-use Rattle.mirror_core.specs.Sound.{IsHeldByMajority, IsSound}
+use Rattle.mirror_core.specs.{Answers.{certs_text, consensus_text}, Sound.{IsHeldByMajority, IsSound}}
 use Rattle.mirror_core.specs.States.{HeldConsensus, Mirrored}
 use Rattle.mirror_serve.specs.GivenTexts.{AreCheckedTexts, IsSignedText}
 

@@ -1,10 +1,7 @@
 -- The microdescriptors of a list of digests, with one digest more.
 use Rattle.std.proofs.Common.{◌≡◌, ◌∙◌, ◌<◌, ◌+◌, ℕ, List, [], ◌∷◌, ◌++◌, length, take, get_or, ap, sym, append-nil}
-use Rattle.std.specs.List.{flat_map}
-use Rattle.std.proofs.lemmas.List.{take_more}
-use Rattle.std.proofs.lemmas.List.Concat.{flat_map-append}
-use Rattle.mirror_core.specs.Answers.{micro_with}
-use Rattle.mirror_core.specs.States.{Mirrored}
+use Rattle.std.{proofs.lemmas.List.{take_more, Concat.flat_map-append}, specs.List.flat_map}
+use Rattle.mirror_core.specs.{Answers.micro_with, States.Mirrored}
 use Rattle.mirror_serve.specs.Given.{bytes_if, micros_with}
 
 -- the microdescriptors that are held of so many digests, and that of the next

@@ -1,12 +1,9 @@
 -- What comes of one connection of a mirror.
 use Rattle.std.specs.Prelude.{◌≡◌, ◌≢◌, ℕ, List, Option, Some, None}
 use Rattle.dir_bytes.specs.Causes.{Rose}
-use Rattle.http_words.specs.declared.asked.Asked.{Asked}
-use Rattle.http_words.specs.declared.connection.ConnStatus.{ConnStatus}
+use Rattle.http_words.specs.declared.{asked.Asked.Asked, connection.ConnStatus.ConnStatus, outcome.Outcome.Outcome}
+use Rattle.http_words.specs.{Connections.{Handles, Answers, Breaks, TriesShortage}, Outcomes.code_of}
 use Rattle.http_words.specs.declared.connection.ConnStatus.TheVariants as status
-use Rattle.http_words.specs.declared.outcome.Outcome.{Outcome}
-use Rattle.http_words.specs.Connections.{Handles, Answers, Breaks, TriesShortage}
-use Rattle.http_words.specs.Outcomes.{code_of}
 use Rattle.mirror_core.specs.States.{Mirrored}
 use Rattle.mirror_serve.specs.Given.{outcome_of}
 

@@ -1,18 +1,12 @@
 -- What a mirror gives for what is asked for over HTTP, in the words that an authority has for it (dir-spec, "General-use
 -- HTTP URLs").
-use Rattle.std.specs.Prelude.{ℕ, List, [], drop, Option, Some, None}
-use Rattle.std.specs.List.{flat_map}
-use Rattle.http_words.specs.DigestLists.{digest_list}
-use Rattle.http_words.specs.declared.asked.Asked.{Asked}
+use Rattle.std.specs.{Prelude.{ℕ, List, [], drop, Option, Some, None}, List.flat_map}
+use Rattle.http_words.specs.{DigestLists.digest_list, declared.{asked.Asked.Asked, replies.Reply.Reply}}
+use Rattle.http_words.specs.{declared.outcome.Outcome.{Outcome, TheVariants.{Replied, Found}}, Found.unless_empty}
 use Rattle.http_words.specs.declared.asked.Asked.TheVariants as asked
 use Rattle.http_words.specs.declared.asked.Form.TheVariants as form
-use Rattle.http_words.specs.declared.replies.Reply.{Reply}
 use Rattle.http_words.specs.declared.replies.Reply.TheVariants as reply
-use Rattle.http_words.specs.Found.{unless_empty}
-use Rattle.http_words.specs.declared.outcome.Outcome.{Outcome}
-use Rattle.http_words.specs.declared.outcome.Outcome.TheVariants.{Replied, Found}
-use Rattle.mirror_core.specs.Answers.{certs_text, consensus_text, micro_with}
-use Rattle.mirror_core.specs.States.{Mirrored}
+use Rattle.mirror_core.specs.{Answers.{certs_text, consensus_text, micro_with}, States.Mirrored}
 
 -- the bytes of a microdescriptor, or none
 abbrev pub bytes_if : Option (List ℕ) → List ℕ

@@ -1,10 +1,8 @@
 -- What the documents are that a mirror gives.
-use Rattle.std.specs.Prelude.{◌≡◌, ℕ, List, All}
-use Rattle.std.specs.List.{flat_map}
+use Rattle.std.specs.{Prelude.{◌≡◌, ℕ, List, All}, List.flat_map}
 use Rattle.dir_values.specs.declared.digest.Fingerprint.{Fingerprint}
 use Rattle.key_port.specs.Answers.{Rules}
-use Rattle.mirror_core.specs.Sound.{IsByMajority, IsChecked}
-use Rattle.mirror_core.specs.States.{HeldConsensus, KeptCert}
+use Rattle.mirror_core.specs.{Sound.{IsByMajority, IsChecked}, States.{HeldConsensus, KeptCert}}
 
 -- A text is a consensus that more than half of a roster signed, each counted once.
 pub record IsSignedText (rules : Rules) (roster : List Fingerprint) (text : List ℕ) : Type 0 where

@@ -1,8 +1,6 @@
 // What a mirror gives for what is asked for.
 ghost use Rattle.std.specs.Prelude.{◌≡◌, ◌≢◌, ◌++◌, IfOk, OnOk};
-ghost use Rattle.http_words.specs.DigestLists.{digest_list};
-ghost use Rattle.http_words.specs.Replies.{code_of as code_of_reply};
-ghost use Rattle.http_words.specs.Outcomes.{code_of};
+ghost use Rattle.http_words.specs.{DigestLists.digest_list, Replies.code_of as code_of_reply, Outcomes.code_of};
 ghost use Rattle.mirror_core.specs.Answers.{consensus_text, micro_with};
 ghost use Rattle.mirror_serve.specs.Given as given;
 

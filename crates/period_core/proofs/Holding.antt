@@ -1,22 +1,13 @@
 -- The held votes are of members of the roster, each once, and stay so.
-use Rattle.std.proofs.Common.{◌≡◌, ◌≤◌, ℕ, Bool, true, false, ◌&&◌, ◌||◌, List, [], ◌∷◌, length, get_or, All, refl}
-use Rattle.std.proofs.Common.{sym, subst}
-use Rattle.std.proofs.Common.{inl, inr, ⊎_elim, bytes_eq}
+use Rattle.std.proofs.Common.{◌≡◌, ◌≤◌, ℕ, Bool, true, false, ◌&&◌, ◌||◌, List, [], ◌∷◌, length, get_or, All, refl, sym}
+use Rattle.std.proofs.{Common.{subst, inl, inr, ⊎_elim, bytes_eq}, lemmas.{Bool.false≢true, List.Elements.All-contains}}
 use Rattle.std.specs.List.{list_any}
-use Rattle.std.proofs.lemmas.Bool.{false≢true}
-use Rattle.std.proofs.lemmas.List.Elements.{All-contains}
-use Rattle.dir_values.specs.declared.digest.Fingerprint.{Fingerprint}
-use Rattle.dir_values.specs.Digests.{same_identity}
-use Rattle.dir_values.specs.Rosters.{has_member}
+use Rattle.dir_values.specs.{declared.digest.Fingerprint.Fingerprint, Digests.same_identity, Rosters.has_member}
 use Rattle.dir_values.proofs.Orders.{apart}
-use Rattle.vote_terms.specs.Votes.{ReadVote}
-use Rattle.vote_terms.specs.Held.{votes_with}
-use Rattle.vote_terms.proofs.Orders.{Below, same_one}
-use Rattle.vote_terms.proofs.HeldLaw.{In, in_to, at_index, Ascends, only}
-use Rattle.vote_terms.proofs.HeldOrder.{to_pairs, from_pairs, placed_ascends}
+use Rattle.vote_terms.{specs.{Votes.ReadVote, Held.votes_with}, proofs.{Orders.{Below, same_one}, HeldLaw.{In, in_to}}}
+use Rattle.vote_terms.proofs.{HeldLaw.{at_index, Ascends, only}, HeldOrder.{to_pairs, from_pairs, placed_ascends}}
 use Rattle.period_terms.specs.States.{has_key}
-use Rattle.period_core.specs.Standing.{AreOf, AreHeld}
-use Rattle.period_core.proofs.Members.{few}
+use Rattle.period_core.{specs.Standing.{AreOf, AreHeld}, proofs.Members.few}
 
 -- the roster has the authority of a vote
 abbrev IsKnown : List Fingerprint → ReadVote → Type 0

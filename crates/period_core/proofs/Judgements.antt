@@ -1,22 +1,15 @@
 -- What is told of a vote settles its outcome.
-use Rattle.std.proofs.Common.{◌≡◌, ℕ, ◌+◌, ◌==◌, ◌||◌, ◌<◌, Bool, true, false, nat_le, Option, Some, None}
-use Rattle.std.proofs.Common.{cond, refl, sym, ap, ◌∙◌, subst}
-use Rattle.std.specs.Prelude.{option_map}
-use Rattle.std.proofs.lemmas.Bool.{leb-false}
+use Rattle.std.proofs.Common.{◌≡◌, ℕ, ◌+◌, ◌==◌, ◌||◌, ◌<◌, Bool, true, false, nat_le, Option, Some, None, cond, refl}
+use Rattle.std.{proofs.{Common.{sym, ap, ◌∙◌, subst}, lemmas.Bool.leb-false}, specs.Prelude.option_map}
 use Rattle.dir_values.specs.Rosters.{has_member}
-use Rattle.vote_terms.specs.declared.rank.Rank.{Rank}
-use Rattle.vote_terms.specs.Votes.{ReadVote, rank_of}
-use Rattle.vote_terms.specs.Held.{outranks}
-use Rattle.period_terms.specs.declared.answer.Offer.{Offer}
+use Rattle.vote_terms.specs.{declared.rank.Rank.Rank, Votes.{ReadVote, rank_of}, Held.outranks}
+use Rattle.period_terms.specs.{declared.{answer.Offer.Offer, event.Via.Via, state.State.State}, States.Outcome}
+use Rattle.period_terms.specs.{States.{unchanged_outcome, vote_of}, Offers.{offer, kept_vote, is_late, with_vote}}
+use Rattle.period_terms.specs.Offers.{most_vote_changes}
 use Rattle.period_terms.specs.declared.answer.Offer.TheVariants as offers
-use Rattle.period_terms.specs.declared.event.Via.{Via}
-use Rattle.period_terms.specs.declared.state.State.{State}
-use Rattle.period_terms.specs.States.{Outcome, unchanged_outcome, vote_of}
 use Rattle.period_terms.specs.Offers as offering
-use Rattle.period_terms.specs.Offers.{offer, kept_vote, is_late, with_vote, most_vote_changes}
-use Rattle.period_core.specs.declared.judging.Judged.{Judged}
-use Rattle.period_core.specs.declared.judging.Judged.TheVariants.{Refused, New, Better}
-use Rattle.period_core.specs.Judging.{Beats, judged_rank, judged_vote, settled_vote}
+use Rattle.period_core.specs.{declared.judging.Judged.{Judged, TheVariants.{Refused, New, Better}}, Judging.Beats}
+use Rattle.period_core.specs.Judging.{judged_rank, judged_vote, settled_vote}
 
 keeping_by : (b : Bool) (s : State) (v : ReadVote) → nat_le most_vote_changes s.vote_changes ≡ b
     → kept_vote s v (offers.Kept (s.front + 1)) ≡ settled_vote s v (cond b (Refused offers.Full) New)

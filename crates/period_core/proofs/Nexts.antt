@@ -1,9 +1,7 @@
 -- The next period that the schedule answers is that of the definitions.
 use Rattle.std.proofs.Common.{◌≡◌, ℕ, Option, Some, None, arith}
-use Rattle.vote_schedule.specs.Schedules.{Schedule, IsSchedule}
-use Rattle.vote_schedule.specs.Moments.{AnswersNext}
-use Rattle.period_terms.specs.Schedules.{next_valid_after}
-use Rattle.period_terms.proofs.NextPeriods.{next_is_next, answers_one}
+use Rattle.vote_schedule.specs.{Schedules.{Schedule, IsSchedule}, Moments.AnswersNext}
+use Rattle.period_terms.{specs.Schedules.next_valid_after, proofs.NextPeriods.{next_is_next, answers_one}}
 use Rattle.period_core.specs.Starting.{IsLater}
 
 pub next_value : (s : Schedule) (after now : ℕ) (result : Option ℕ) → IsSchedule s → AnswersNext s after now result

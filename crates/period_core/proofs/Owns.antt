@@ -4,20 +4,15 @@ use Rattle.std.specs.Prelude.{option_map}
 use Rattle.key_port.specs.Answers.{Relation, Rules}
 use Rattle.dir_values.specs.declared.digest.Fingerprint.{Fingerprint}
 use Rattle.vote_terms.specs.Votes.{ReadVote}
-use Rattle.consensus_terms.specs.declared.consensus.Consensus.{Consensus}
-use Rattle.consensus_terms.specs.declared.flavour.Flavour.TheVariants.{Ns, Microdesc}
+use Rattle.consensus_terms.specs.declared.{consensus.Consensus.Consensus, flavour.Flavour.TheVariants.{Ns, Microdesc}}
 use Rattle.consensus_terms.specs.declared.signature.SignatureLine.{SignatureLine}
 use Rattle.period_terms.specs.declared.answer.Advance.TheVariants as answer
 use Rattle.period_terms.specs.declared.event.Signing.TheVariants as given
-use Rattle.period_terms.specs.declared.stage.Stage.TheVariants.{Computed}
-use Rattle.period_terms.specs.declared.state.State.{State}
-use Rattle.period_terms.specs.States.{vote_of, digest_of}
+use Rattle.period_terms.specs.{declared.{stage.Stage.TheVariants.Computed, state.State.State}, States.vote_of}
+use Rattle.period_terms.{specs.{States.digest_of, Advances.{MayGive, own_line}}, proofs.DigestSizes.both_size}
 use Rattle.period_terms.specs.Advances as advances
-use Rattle.period_terms.specs.Advances.{MayGive, own_line}
-use Rattle.period_core.specs.Rounds.{with_own}
-use Rattle.period_core.specs.Signing.{Advances}
-use Rattle.period_terms.proofs.DigestSizes.{both_size}
-use Rattle.period_core.proofs.Rounding.{no_consensus, no_vote, signer_fails, verifier_fails, refused, signs}
+use Rattle.period_core.{specs.{Rounds.with_own, Signing.Advances}, proofs.Rounding.{no_consensus, no_vote}}
+use Rattle.period_core.proofs.Rounding.{signer_fails, verifier_fails, refused, signs}
 
 abbrev key_of : ReadVote → List ℕ
 key_of vote = vote.says.certificate.signing_key

@@ -1,26 +1,20 @@
 -- What each stage comes to.
-use Rattle.std.proofs.Common.{◌≡◌, ℕ, ◌<◌, ◌≤◌, true, List, length, Option, Some, None}
-use Rattle.std.proofs.Common.{refl, sym, ap, ◌∙◌, subst, le-ltb, lt-ltb}
-use Rattle.std.specs.Prelude.{Result, Ok, Err, IfOk}
+use Rattle.std.proofs.Common.{◌≡◌, ℕ, ◌<◌, ◌≤◌, true, List, length, Option, Some, None, refl, sym, ap, ◌∙◌, subst}
+use Rattle.std.{proofs.Common.{le-ltb, lt-ltb}, specs.Prelude.{Result, Ok, Err, IfOk}}
 use Rattle.key_port.specs.Answers.{Relation, Rules}
 use Rattle.vote_terms.specs.Votes.{ReadVote}
 use Rattle.count_terms.specs.Counts.{over}
 use Rattle.compute_terms.specs.Consensuses.{consensus}
 use Rattle.consensus_terms.specs.declared.consensus.Consensus.{Consensus}
-use Rattle.period_terms.specs.declared.answer.Advance.{Advance}
-use Rattle.period_terms.specs.declared.answer.Advance.TheVariants as answer
-use Rattle.period_terms.specs.declared.event.Signing.{Signing}
-use Rattle.period_terms.specs.declared.event.Signing.TheVariants as given
-use Rattle.period_terms.specs.declared.stage.Stage.{Stage}
+use Rattle.period_terms.specs.declared.{answer.Advance.Advance, event.Signing.Signing, stage.Stage.Stage}
 use Rattle.period_terms.specs.declared.stage.Stage.TheVariants.{Voting, Frozen, Computed, Signed, Ended}
-use Rattle.period_terms.specs.declared.state.State.{State}
+use Rattle.period_terms.specs.{declared.state.State.State, Schedules.next_valid_after, States.{Outcome, consensus_of}}
+use Rattle.period_terms.specs.{States.vote_of, Advances.{advance, MayGive, MayGiveIf}}
+use Rattle.period_terms.specs.declared.answer.Advance.TheVariants as answer
+use Rattle.period_terms.specs.declared.event.Signing.TheVariants as given
 use Rattle.vote_schedule.specs.Moments as schedule_moments
-use Rattle.period_terms.specs.Schedules.{next_valid_after}
-use Rattle.period_terms.specs.States.{Outcome, consensus_of, vote_of}
 use Rattle.period_terms.specs.Advances as advances
-use Rattle.period_terms.specs.Advances.{advance, MayGive, MayGiveIf}
-use Rattle.period_core.specs.Rounds.{make_of}
-use Rattle.period_core.specs.Signing.{Advances, Comes}
+use Rattle.period_core.specs.{Rounds.make_of, Signing.{Advances, Comes}}
 
 pub made_comes : (s next : State) (c made : Consensus) → (over (length s.votes) (length s.roster) ≡ true)
     × (c ≡ consensus s.newest (length s.roster) s.votes) → made ≡ c

@@ -1,33 +1,20 @@
 -- An authority stands so after each change.
-use Rattle.std.proofs.Common.{◌≡◌, ℕ, ◌+◌, ◌<◌, ◌≤◌, true, false, Option, Some, None, List, [], ◌∷◌}
-use Rattle.std.proofs.Common.{◌++◌, length, refl, sym, ap, ◌∙◌, subst, arith}
-use Rattle.std.specs.List.{filter}
-use Rattle.std.specs.Prelude.{not}
-use Rattle.std.proofs.lemmas.List.{length_push}
+use Rattle.std.proofs.Common.{◌≡◌, ℕ, ◌+◌, ◌<◌, ◌≤◌, true, false, Option, Some, None, List, [], ◌∷◌, ◌++◌, length, refl}
+use Rattle.std.{proofs.{Common.{sym, ap, ◌∙◌, subst, arith}, lemmas.List.length_push}, specs.{List.filter, Prelude.not}}
 use Rattle.dir_bytes.specs.Causes.{last_moment}
-use Rattle.dir_values.specs.declared.digest.Fingerprint.{Fingerprint}
-use Rattle.dir_values.specs.Digests.{same_identity}
-use Rattle.dir_values.specs.Rosters.{has_member}
-use Rattle.consensus_terms.specs.declared.consensus.Consensus.{Consensus}
-use Rattle.consensus_terms.specs.declared.signature.SignatureLine.{SignatureLine}
-use Rattle.vote_terms.specs.declared.rank.Rank.{Rank}
-use Rattle.vote_terms.specs.Votes.{ReadVote, rank_of}
-use Rattle.vote_terms.specs.Held.{votes_with}
-use Rattle.period_terms.specs.declared.change.Change.{Change}
-use Rattle.period_terms.specs.declared.stage.Stage.{Stage}
-use Rattle.period_terms.specs.declared.stage.Stage.TheVariants.{Voting, Frozen, Computed, Signed, Ended}
-use Rattle.period_terms.specs.declared.state.State.{State}
-use Rattle.period_terms.specs.declared.change.ChangeKind.TheVariants as kind
-use Rattle.period_terms.specs.States.{change, with_change, with_signature, has_line}
-use Rattle.period_terms.specs.Offers.{most_vote_changes, vote_change}
-use Rattle.period_terms.specs.KeptFacts.{keeps_vote, keeps_signature, stage_by}
-use Rattle.period_terms.proofs.Placing.{Beats}
-use Rattle.period_terms.proofs.Telling.{TellsAt, to_parts, from_parts, plain}
-use Rattle.period_terms.proofs.TellingVotes.{vote_tells}
+use Rattle.dir_values.specs.{declared.digest.Fingerprint.Fingerprint, Digests.same_identity, Rosters.has_member}
+use Rattle.consensus_terms.specs.declared.{consensus.Consensus.Consensus, signature.SignatureLine.SignatureLine}
+use Rattle.vote_terms.specs.{declared.rank.Rank.Rank, Votes.{ReadVote, rank_of}, Held.votes_with}
+use Rattle.period_terms.specs.declared.{change.Change.Change, stage.Stage.{Stage, TheVariants.{Voting, Frozen}}}
+use Rattle.period_terms.specs.declared.{stage.Stage.TheVariants.{Computed, Signed, Ended}, state.State.State}
+use Rattle.period_terms.specs.{States.{change, with_change, with_signature, has_line}, Offers.most_vote_changes}
+use Rattle.period_terms.specs.{Offers.vote_change, KeptFacts.{keeps_vote, keeps_signature, stage_by}}
+use Rattle.period_terms.proofs.{Placing.Beats, Telling.{TellsAt, to_parts, from_parts, plain}, TellingVotes.vote_tells}
 use Rattle.period_terms.proofs.TellingSigners.{sign_change, signature_change, own_tells, ns_tells, micro_tells}
-use Rattle.period_core.specs.Standing.{AreSigners, IsStanding, stage_changes, most_changes}
-use Rattle.period_core.proofs.Members.{few, are_more, are_left, none_of_it, one_fewer}
-use Rattle.period_core.proofs.Holding.{few_held, none_held, held_placed}
+use Rattle.period_terms.specs.declared.change.ChangeKind.TheVariants as kind
+use Rattle.period_core.{specs.Standing.{AreSigners, IsStanding, stage_changes, most_changes}, proofs.Members.few}
+use Rattle.period_core.proofs.{Members.{are_more, are_left, none_of_it, one_fewer}, Holding.{few_held, none_held}}
+use Rattle.period_core.proofs.Holding.{held_placed}
 
 -- how many changes there are, where so many more come at most
 pub room : (s : State) → IsStanding s → length s.changes ≤ s.vote_changes + stage_changes s.stage + 64

@@ -1,24 +1,16 @@
 -- What is told of a signature settles its outcome.
-use Rattle.std.proofs.Common.{◌≡◌, ℕ, ◌+◌, ◌==◌, Bool, true, false, List, Option, Some, None, refl, sym}
-use Rattle.std.proofs.Common.{ap, ◌∙◌, subst, bytes_eq, length}
-use Rattle.std.specs.Prelude.{option_map}
-use Rattle.dir_values.specs.Rosters.{has_member}
-use Rattle.consensus_terms.specs.declared.consensus.Consensus.{Consensus}
-use Rattle.period_terms.specs.declared.answer.SignIn.{SignIn}
-use Rattle.period_terms.specs.declared.answer.SignIn.TheVariants as answers
-use Rattle.period_terms.specs.declared.signature.OfferedSignature.{OfferedSignature}
-use Rattle.period_terms.specs.declared.state.State.{State}
-use Rattle.period_terms.specs.States.{Outcome, is_ended, has_key, digest_of, lines_of, has_line}
-use Rattle.period_terms.specs.SignIns.{sign_in, sign_in_over, keep_signature}
-use Rattle.period_core.specs.declared.weighing.Weighed.{Weighed}
-use Rattle.period_core.specs.declared.weighing.Weighed.TheVariants.{Refused, Fits}
-use Rattle.period_core.specs.Standing.{AreHeld}
-use Rattle.period_core.specs.Weighing.{digest_size, weighed_signature, weighed_over, settled_signature}
+use Rattle.std.proofs.Common.{◌≡◌, ℕ, ◌+◌, ◌==◌, Bool, true, false, List, Option, Some, None, refl, sym, ap, ◌∙◌, subst}
+use Rattle.std.{proofs.Common.{bytes_eq, length}, specs.Prelude.option_map}
+use Rattle.dir_values.{specs.Rosters.has_member, proofs.Orders.same_text}
+use Rattle.consensus_terms.specs.declared.{consensus.Consensus.Consensus, flavour.Flavour.{Flavour, TheVariants.Ns}}
+use Rattle.consensus_terms.specs.{declared.flavour.Flavour.TheVariants.Microdesc, Texts.unsigned}
+use Rattle.period_terms.specs.declared.{answer.SignIn.SignIn, signature.OfferedSignature.OfferedSignature}
+use Rattle.period_terms.specs.{declared.state.State.State, States.{Outcome, is_ended, has_key, digest_of, lines_of}}
+use Rattle.period_terms.specs.{States.has_line, SignIns.{sign_in, sign_in_over, keep_signature}}
 use Rattle.period_terms.proofs.DigestSizes.{ns_size, micro_size}
-use Rattle.dir_values.proofs.Orders.{same_text}
-use Rattle.consensus_terms.specs.Texts.{unsigned}
-use Rattle.consensus_terms.specs.declared.flavour.Flavour.{Flavour}
-use Rattle.consensus_terms.specs.declared.flavour.Flavour.TheVariants.{Ns, Microdesc}
+use Rattle.period_terms.specs.declared.answer.SignIn.TheVariants as answers
+use Rattle.period_core.specs.{declared.weighing.Weighed.{Weighed, TheVariants.{Refused, Fits}}, Standing.AreHeld}
+use Rattle.period_core.specs.Weighing.{digest_size, weighed_signature, weighed_over, settled_signature}
 use Rattle.period_core.proofs.Holding.{key_of_member}
 
 over_by : (d k h e : Bool) (s : State) (x : OfferedSignature) (c : Consensus)

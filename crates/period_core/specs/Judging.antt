@@ -2,19 +2,12 @@
 use Rattle.std.specs.Prelude.{◌≡◌, ℕ, ◌+◌, ◌==◌, nat_le, Bool, true, not, option_map, List, Option, Some, None}
 use Rattle.std.specs.Prelude.{if◌then◌else◌}
 use Rattle.dir_values.specs.Rosters.{has_member}
-use Rattle.vote_terms.specs.declared.rank.Rank.{Rank}
-use Rattle.vote_terms.specs.Votes.{ReadVote, rank_of, is_above}
-use Rattle.vote_terms.specs.Held.{outranks}
-use Rattle.period_terms.specs.declared.answer.Offer.{Offer}
-use Rattle.period_terms.specs.declared.answer.Offer.TheVariants.{OtherPeriod, Stranger, Late, Have, Older, Full, Kept}
-use Rattle.period_terms.specs.declared.answer.Offer.TheVariants.{Replaced}
-use Rattle.period_terms.specs.declared.event.Via.{Via}
-use Rattle.period_terms.specs.declared.state.State.{State}
-use Rattle.period_terms.specs.Schedules.{cutoff_of}
-use Rattle.period_terms.specs.States.{Outcome, unchanged_outcome, is_voting, vote_of}
-use Rattle.period_terms.specs.Offers.{most_vote_changes, is_late, with_vote}
-use Rattle.period_core.specs.declared.judging.Judged.{Judged}
-use Rattle.period_core.specs.declared.judging.Judged.TheVariants.{Refused, New, Better}
+use Rattle.vote_terms.specs.{declared.rank.Rank.Rank, Votes.{ReadVote, rank_of, is_above}, Held.outranks}
+use Rattle.period_terms.specs.declared.answer.Offer.{Offer, TheVariants.{OtherPeriod, Stranger, Late, Have, Older}}
+use Rattle.period_terms.specs.declared.{answer.Offer.TheVariants.{Full, Kept, Replaced}, event.Via.Via}
+use Rattle.period_terms.specs.{declared.state.State.State, Schedules.cutoff_of, States.{Outcome, unchanged_outcome}}
+use Rattle.period_terms.specs.{States.{is_voting, vote_of}, Offers.{most_vote_changes, is_late, with_vote}}
+use Rattle.period_core.specs.declared.judging.Judged.{Judged, TheVariants.{Refused, New, Better}}
 
 -- what is told of a rank, beside that of the held vote of its authority
 abbrev pub judged_rank : Option Rank → Rank → Bool → Judged

@@ -4,9 +4,7 @@ use Rattle.key_port.specs.Answers.{Relation, Rules}
 use Rattle.period_terms.specs.declared.answer.Advance.TheVariants as answer
 use Rattle.period_terms.specs.declared.state.State.{State}
 use Rattle.period_terms.specs.Advances as advances
-use Rattle.period_core.specs.declared.owning.Own.{Own}
-use Rattle.period_core.specs.declared.owning.Own.TheVariants.{Stays, NoVote, Gave, Memory}
-use Rattle.period_core.specs.Rounds.{with_own}
+use Rattle.period_core.specs.{declared.owning.Own.{Own, TheVariants.{Stays, NoVote, Gave, Memory}}, Rounds.with_own}
 use Rattle.period_core.specs.Signing.{Advances}
 
 -- this is what a moment comes to, where the consensus is computed

@@ -2,9 +2,7 @@
 use Rattle.period_terms.specs.declared.answer.Advance.TheVariants as answer
 use Rattle.period_terms.specs.declared.state.State.{State}
 use Rattle.period_terms.specs.Advances as advances
-use Rattle.period_core.specs.declared.publishing.Due.{Due}
-use Rattle.period_core.specs.declared.publishing.Due.TheVariants.{Nothing, Misses, Texts}
-use Rattle.period_core.specs.Rounds.{with_texts}
+use Rattle.period_core.specs.{declared.publishing.Due.{Due, TheVariants.{Nothing, Misses, Texts}}, Rounds.with_texts}
 use Rattle.period_core.specs.Signing.{Comes}
 
 -- this is what the begin of the period comes to

@@ -1,14 +1,11 @@
 -- What each stage of a period comes to.
 use Rattle.std.specs.Prelude.{ℕ, List, Bool, Option, Some, None, length, if◌then◌else◌}
-use Rattle.consensus_terms.specs.declared.signature.SignatureLine.{SignatureLine}
-use Rattle.consensus_terms.specs.Signed.{signed}
+use Rattle.consensus_terms.specs.{declared.signature.SignatureLine.SignatureLine, Signed.signed}
 use Rattle.count_terms.specs.Counts.{over}
-use Rattle.period_terms.specs.declared.answer.Advance.{Advance}
+use Rattle.period_terms.specs.declared.{answer.Advance.Advance, stage.Stage.TheVariants.{Signed, Ended}}
+use Rattle.period_terms.specs.{declared.state.State.State, States.{Outcome, consensus_of, change, with_change}}
+use Rattle.period_terms.specs.{States.with_signature, Advances.{compute, give_up}}
 use Rattle.period_terms.specs.declared.change.ChangeKind.TheVariants as kind
-use Rattle.period_terms.specs.declared.stage.Stage.TheVariants.{Signed, Ended}
-use Rattle.period_terms.specs.declared.state.State.{State}
-use Rattle.period_terms.specs.States.{Outcome, consensus_of, change, with_change, with_signature}
-use Rattle.period_terms.specs.Advances.{compute, give_up}
 
 -- a frozen authority computes the consensus, or gives up
 abbrev pub make_of : State → Outcome Advance

@@ -1,15 +1,12 @@
 -- What comes of signing, and of a moment.
-use Rattle.std.specs.Prelude.{◌≡◌, ◌≤◌, ◌⊎◌, ℕ, List, Option, Some, None, Result, Ok, Err}
+use Rattle.std.specs.Prelude.{◌≡◌, ℕ, List, Result, Ok, Err}
 use Rattle.key_port.specs.Answers.{Relation, Rules}
 use Rattle.consensus_terms.specs.declared.consensus.Consensus.{Consensus}
-use Rattle.period_terms.specs.declared.answer.Advance.{Advance}
+use Rattle.period_terms.specs.declared.{answer.Advance.Advance, event.Signing.Signing, state.State.State}
+use Rattle.period_terms.specs.{States.Outcome, Advances.{MaySign, MayRefuse, MayGive, MayGiveAt, advance}}
 use Rattle.period_terms.specs.declared.answer.Advance.TheVariants as answer
 use Rattle.dir_bytes.specs.declared.fault.Memory.{Memory}
-use Rattle.period_terms.specs.declared.event.Signing.{Signing}
 use Rattle.period_terms.specs.declared.event.Signing.TheVariants as signing
-use Rattle.period_terms.specs.declared.state.State.{State}
-use Rattle.period_terms.specs.States.{Outcome}
-use Rattle.period_terms.specs.Advances.{MaySign, MayRefuse, MayGive, MayGiveAt, advance}
 use Rattle.period_core.specs.declared.signing.Unsigned.{Unsigned}
 use Rattle.period_core.specs.declared.signing.Unsigned.TheVariants as unsigned
 
@@ -21,14 +18,6 @@ SignsOne may_give rules key digest (Err (unsigned.Refused of)) = (of ≡ digest)
 SignsOne may_give rules key digest (Err unsigned.SignerFails) = Unit {0}
 SignsOne may_give rules key digest (Err unsigned.VerifierFails) = Unit {0}
 SignsOne may_give rules key digest (Err unsigned.Memory) = Unit {0}
-
--- what was given, as the definitions have it; want of memory is none
-abbrev pub given_of : Result (List ℕ × List ℕ) Unsigned → Option Signing
-given_of (Ok texts) = Some (signing.Given texts.0 texts.1)
-given_of (Err (unsigned.Refused digest)) = Some (signing.Refused digest)
-given_of (Err unsigned.SignerFails) = Some signing.SignerFails
-given_of (Err unsigned.VerifierFails) = Some signing.VerifierFails
-given_of (Err unsigned.Memory) = None
 
 -- signing both digests of a consensus gives what it may
 abbrev pub SignsBoth : Relation → Rules → List ℕ → Consensus → Result (List ℕ × List ℕ) Unsigned → Type 0

@@ -1,19 +1,13 @@
 -- What an authority keeps, whatever comes to it.
-use Rattle.std.specs.Prelude.{◌≡◌, ℕ, ◌+◌, ◌*◌, ◌≤◌, true, false, List, [], ◌∷◌, length, All}
-use Rattle.std.specs.List.{list_any}
+use Rattle.std.specs.{Prelude.{◌≡◌, ℕ, ◌+◌, ◌*◌, ◌≤◌, true, false, List, [], ◌∷◌, length, All}, List.list_any}
 use Rattle.dir_bytes.specs.Causes.{last_moment}
-use Rattle.dir_values.specs.declared.digest.Fingerprint.{Fingerprint}
-use Rattle.dir_values.specs.Digests.{same_identity}
-use Rattle.dir_values.specs.Rosters.{IsRoster, has_member}
+use Rattle.dir_values.specs.{declared.digest.Fingerprint.Fingerprint, Digests.same_identity, Rosters.IsRoster}
+use Rattle.dir_values.specs.Rosters.{has_member}
 use Rattle.consensus_terms.specs.declared.signature.SignatureLine.{SignatureLine}
-use Rattle.vote_terms.specs.Votes.{ReadVote}
-use Rattle.vote_terms.specs.Held.{VotesAscend}
+use Rattle.vote_terms.specs.{Votes.ReadVote, Held.VotesAscend}
 use Rattle.vote_schedule.specs.Schedules.{IsSchedule}
-use Rattle.period_terms.specs.declared.stage.Stage.{Stage}
-use Rattle.period_terms.specs.declared.stage.Stage.TheVariants.{Voting, Frozen, Computed, Signed, Ended}
-use Rattle.period_terms.specs.declared.state.State.{State}
-use Rattle.period_terms.specs.Offers.{most_vote_changes}
-use Rattle.period_terms.specs.KeptFacts.{AgreesWithChanges}
+use Rattle.period_terms.specs.declared.stage.Stage.{Stage, TheVariants.{Voting, Frozen, Computed, Signed, Ended}}
+use Rattle.period_terms.specs.{declared.state.State.State, Offers.most_vote_changes, KeptFacts.AgreesWithChanges}
 
 -- each is of a member of the roster, and no two are of one
 abbrev pub AreOf : {X : Type 0} → (X → Fingerprint) → List Fingerprint → List X → Type 0

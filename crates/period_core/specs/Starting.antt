@@ -2,14 +2,10 @@
 use Rattle.std.specs.Prelude.{◌≡◌, ◌<◌, ◌≤◌, ℕ, true, false, List, Option, Some, None, Result, Ok, Err}
 use Rattle.dir_bytes.specs.Causes.{last_moment}
 use Rattle.count_terms.specs.declared.newest.Newest.{Newest}
-use Rattle.dir_values.specs.declared.digest.Fingerprint.{Fingerprint}
-use Rattle.dir_values.specs.Rosters.{has_member}
+use Rattle.dir_values.specs.{declared.digest.Fingerprint.Fingerprint, Rosters.has_member}
 use Rattle.vote_schedule.specs.Schedules.{Schedule}
-use Rattle.period_terms.specs.declared.state.State.{State}
-use Rattle.period_terms.specs.Schedules.{next_valid_after}
-use Rattle.period_terms.specs.Histories.{start_in}
-use Rattle.period_core.specs.declared.state.StartFault.{StartFault}
-use Rattle.period_core.specs.declared.state.StartFault.TheVariants.{OwnNotInRoster, EndOfTime, Memory}
+use Rattle.period_terms.specs.{declared.state.State.State, Schedules.next_valid_after, Histories.start_in}
+use Rattle.period_core.specs.declared.state.StartFault.{StartFault, TheVariants.{OwnNotInRoster, EndOfTime, Memory}}
 
 -- a moment that is answered is later than this one, and within the calendar
 abbrev pub IsLater : ℕ → Option ℕ → Type 0

@@ -2,13 +2,10 @@
 use Rattle.std.specs.Prelude.{ℕ, List, Option}
 use Rattle.count_terms.specs.declared.newest.Newest.{Newest}
 use Rattle.dir_values.specs.declared.digest.Fingerprint.{Fingerprint}
-use Rattle.consensus_terms.specs.declared.consensus.Consensus.{Consensus}
-use Rattle.consensus_terms.specs.declared.signature.SignatureLine.{SignatureLine}
+use Rattle.consensus_terms.specs.declared.{consensus.Consensus.Consensus, signature.SignatureLine.SignatureLine}
 use Rattle.vote_terms.specs.Votes.{ReadVote}
-use Rattle.period_terms.specs.declared.change.Change.{Change}
+use Rattle.period_terms.specs.declared.{change.Change.Change, stage.Stage.Stage, state.State.State}
 use Rattle.vote_schedule.specs.Schedules.{Schedule}
-use Rattle.period_terms.specs.declared.stage.Stage.{Stage}
-use Rattle.period_terms.specs.declared.state.State.{State}
 
 -- the state of these parts
 abbrev pub state_of : List Fingerprint → Fingerprint → Newest → Schedule → ℕ → Stage → List ReadVote → ℕ

@@ -1,11 +1,8 @@
 -- What signatures of a period are checked against.
 use Rattle.std.specs.Prelude.{map, Option, option_map}
-use Rattle.consensus_terms.specs.declared.consensus.Consensus.{Consensus}
-use Rattle.consensus_terms.specs.declared.flavour.Flavour.TheVariants.{Ns, Microdesc}
-use Rattle.period_terms.specs.declared.state.State.{State}
-use Rattle.period_terms.specs.States.{digest_of}
+use Rattle.consensus_terms.specs.declared.{consensus.Consensus.Consensus, flavour.Flavour.TheVariants.{Ns, Microdesc}}
+use Rattle.period_terms.specs.{declared.{state.State.State, view.PeriodView.PeriodView}, States.digest_of}
 pub use Rattle.period_terms.specs.Keys.{signer_key}
-use Rattle.period_terms.specs.declared.view.PeriodView.{PeriodView}
 
 -- what signatures over a consensus are checked against
 abbrev pub view_over : State → Consensus → PeriodView

@@ -1,20 +1,14 @@
 -- What is told of an offered signature, before anything is changed.
-use Rattle.std.specs.Prelude.{ℕ, ◌==◌, not, option_map, List, Option, Some, None, if◌then◌else◌}
-use Rattle.std.specs.Str.{bytes_eq}
-use Rattle.consensus_terms.specs.declared.flavour.Flavour.{Flavour}
-use Rattle.consensus_terms.specs.declared.flavour.Flavour.TheVariants.{Ns, Microdesc}
-use Rattle.period_terms.specs.declared.answer.SignIn.{SignIn}
-use Rattle.period_terms.specs.declared.answer.SignIn.TheVariants.{OtherPeriod, NotComputed, OtherDigest, Stranger}
-use Rattle.period_terms.specs.declared.answer.SignIn.TheVariants.{Have, Closed}
-use Rattle.period_terms.specs.declared.signature.OfferedSignature.{OfferedSignature}
-use Rattle.period_terms.specs.declared.state.State.{State}
+use Rattle.std.specs.{Prelude.{ℕ, ◌==◌, not, option_map, List, Option, Some, None, if◌then◌else◌}, Str.bytes_eq}
+use Rattle.consensus_terms.specs.declared.flavour.Flavour.{Flavour, TheVariants.{Ns, Microdesc}}
 use Rattle.consensus_terms.specs.declared.signature.SignatureLine.{SignatureLine}
+use Rattle.period_terms.specs.declared.answer.SignIn.{SignIn, TheVariants.{OtherPeriod, NotComputed, OtherDigest}}
+use Rattle.period_terms.specs.declared.answer.SignIn.TheVariants.{Stranger, Have, Closed}
+use Rattle.period_terms.specs.declared.{signature.OfferedSignature.OfferedSignature, state.State.State}
+use Rattle.period_terms.specs.{SignIns.{keep_signature, with_line}, States.{Outcome, unchanged_outcome, is_ended}}
+use Rattle.period_terms.specs.States.{has_key, digest_of, lines_of, has_line, change, with_change}
 use Rattle.period_terms.specs.declared.change.ChangeKind.TheVariants as kind
-use Rattle.period_terms.specs.SignIns.{keep_signature, with_line}
-use Rattle.period_terms.specs.States.{Outcome, unchanged_outcome, is_ended, has_key, digest_of, lines_of, has_line, change}
-use Rattle.period_terms.specs.States.{with_change}
-use Rattle.period_core.specs.declared.weighing.Weighed.{Weighed}
-use Rattle.period_core.specs.declared.weighing.Weighed.TheVariants.{Refused, Fits}
+use Rattle.period_core.specs.declared.weighing.Weighed.{Weighed, TheVariants.{Refused, Fits}}
 
 -- how many bytes a digest of a flavour has
 abbrev pub digest_size : Flavour → ℕ

@@ -25,9 +25,8 @@ pub struct Made {
 
 impl Model for Made {
     ghost use Rattle.std.specs.Prelude.{◌≡◌};
-    ghost use Rattle.consensus_terms.specs.Texts.{unsigned};
+    ghost use Rattle.consensus_terms.specs.{Texts.unsigned, declared.consensus.Consensus.Consensus};
     ghost use Rattle.period_terms.specs.States.{digest_of};
-    ghost use Rattle.consensus_terms.specs.declared.consensus.Consensus.{Consensus};
     ghost use Rattle.consensus_terms.specs.declared.flavour.Flavour.TheVariants as flavour;
 
     ghost Value = { Consensus };

@@ -1,11 +1,11 @@
 // The publication.
-ghost use Rattle.std.specs.Prelude.{◌≡◌, ◌≤◌, ◌<◌, ◌+◌, ◌^◌, ◌++◌, ◌∷◌, [], None, Some, IfOk, OnErr, Ok, true, length, vec_len, vec_capacity, if◌then◌else◌};
+ghost use Rattle.std.specs.Prelude.{◌≡◌, ◌≤◌, ◌<◌, ◌+◌, ◌^◌, ◌++◌, ◌∷◌, [], None, Some, IfOk, OnErr, Ok, true, length};
+ghost use Rattle.std.specs.Prelude.{vec_len, vec_capacity, if◌then◌else◌};
 ghost use Rattle.consensus_terms.specs.declared.flavour.Flavour.TheVariants as flavour;
 ghost use Rattle.period_terms.specs.Advances as advances;
 ghost use Rattle.period_terms.specs.States as states;
 ghost use Rattle.period_core.specs.Rounds as rounds;
-ghost use Rattle.period_core.specs.Publishes.{Publishes};
-ghost use Rattle.period_core.specs.Signing.{Comes, IsQuiet};
+ghost use Rattle.period_core.specs.{Publishes.Publishes, Signing.{Comes, IsQuiet}};
 ghost use Rattle.period_terms.specs.declared.stage.Stage.TheVariants as stage;
 
 use crate::made::Made;

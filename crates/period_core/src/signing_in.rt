@@ -1,5 +1,6 @@
 // Signatures that are offered.
-ghost use Rattle.std.specs.Prelude.{◌≡◌, ◌≤◌, ◌+◌, ◌++◌, ◌∷◌, ◌<◌, [], false, true, None, Some, IsSome, length, vec_len, vec_capacity};
+ghost use Rattle.std.specs.Prelude.{◌≡◌, ◌≤◌, ◌+◌, ◌++◌, ◌∷◌, ◌<◌, [], false, true, None, Some, IsSome, length};
+ghost use Rattle.std.specs.Prelude.{vec_len, vec_capacity};
 ghost use Rattle.dir_values.specs.Rosters.{has_member};
 ghost use Rattle.period_terms.specs.SignIns as sign_ins;
 ghost use Rattle.period_terms.specs.States as states;

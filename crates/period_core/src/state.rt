@@ -39,8 +39,7 @@ pub struct PeriodState<V: Verifier> {
 impl<V: Verifier> Model for PeriodState<V> {
     ghost use Rattle.std.specs.Prelude.{◌≡◌, ◌≤◌, vec_capacity};
     ghost use Rattle.period_terms.specs.declared.state.State.{State};
-    ghost use Rattle.period_core.specs.Standing.{IsStanding, most_changes, most_votes};
-    ghost use Rattle.period_core.specs.Viewing.{state_of};
+    ghost use Rattle.period_core.specs.{Standing.{IsStanding, most_changes, most_votes}, Viewing.state_of};
 
     ghost Value = { State };
 

@@ -1,27 +1,18 @@
 -- What is held, and what is computed, told from the accepted votes.
-use Rattle.std.proofs.Common.{◌≡◌, List, [], ◌∷◌, length, refl, sym, ap, ◌∙◌, subst}
-use Rattle.std.specs.Prelude.{Contains}
+use Rattle.std.{proofs.Common.{◌≡◌, List, [], ◌∷◌, length, refl, sym, ap, ◌∙◌, subst}, specs.Prelude.Contains}
 use Rattle.count_terms.specs.declared.newest.Newest.{Newest}
 use Rattle.dir_values.specs.declared.digest.Fingerprint.{Fingerprint}
-use Rattle.vote_terms.specs.Votes.{ReadVote}
-use Rattle.vote_terms.specs.Held.{held}
-use Rattle.vote_terms.proofs.HeldLaw.{held_law, held_agree as held_are_one, ranks_agree}
-use Rattle.consensus_terms.specs.declared.consensus.Consensus.{Consensus}
-use Rattle.consensus_terms.specs.Texts.{unsigned}
+use Rattle.vote_terms.{specs.{Votes.ReadVote, Held.held}, proofs.HeldLaw.{held_law, held_agree as held_are_one}}
+use Rattle.vote_terms.proofs.HeldLaw.{ranks_agree}
+use Rattle.consensus_terms.specs.{declared.consensus.Consensus.Consensus, Texts.unsigned}
 use Rattle.compute_terms.specs.Consensuses.{consensus}
-use Rattle.period_terms.specs.declared.event.Event.{Event}
-use Rattle.period_terms.specs.declared.event.Event.TheVariants.{Offered, Advanced, SignedIn, Read}
-use Rattle.period_terms.specs.declared.state.State.{State}
-use Rattle.period_terms.specs.Offers.{offer}
-use Rattle.period_terms.specs.Advances.{advance}
-use Rattle.period_terms.specs.SignIns.{sign_in}
-use Rattle.period_terms.specs.Steps.{step}
+use Rattle.period_terms.specs.declared.event.Event.{Event, TheVariants.{Offered, Advanced, SignedIn, Read}}
+use Rattle.period_terms.specs.{declared.state.State.State, Offers.offer, Advances.advance, SignIns.sign_in, Steps.step}
 use Rattle.period_terms.specs.Histories.{IsStart, run, accepted_after, accepted_with, accepted}
 use Rattle.period_laws.specs.Periods.{HeldAreHeld, AcceptedAreWanted, ComputedOfAccepted, RanksAreOne}
-use Rattle.period_laws.specs.Periods.{PeriodStatesAgree}
-use Rattle.period_laws.proofs.Members.{in_from}
-use Rattle.period_laws.proofs.Rows.{offering, advancing, signing_in}
-use Rattle.period_laws.proofs.AcceptedSteps.{StandsAt, none_is, vote_stands, moment_stands, signature_stands}
+use Rattle.period_laws.{specs.Periods.PeriodStatesAgree, proofs.{Members.in_from, Rows.{offering, advancing}}}
+use Rattle.period_laws.proofs.{Rows.signing_in, AcceptedSteps.{StandsAt, none_is, vote_stands, moment_stands}}
+use Rattle.period_laws.proofs.AcceptedSteps.{signature_stands}
 
 -- ---- whole lists
 

@@ -1,36 +1,22 @@
 -- What one call leaves held and computed, told from the accepted votes.
 use Rattle.std.proofs.Common.{◌≡◌, ℕ, Bool, true, false, cond, List, [], ◌∷◌, ◌++◌, length, Option, Some, None, refl}
-use Rattle.std.proofs.Common.{sym, ap, ◌∙◌, subst, ⊎_elim, append-nil}
-use Rattle.std.proofs.lemmas.Bool.{false≢true}
+use Rattle.std.proofs.{Common.{sym, ap, ◌∙◌, subst, ⊎_elim, append-nil}, lemmas.Bool.false≢true}
 use Rattle.count_terms.specs.declared.newest.Newest.{Newest}
-use Rattle.dir_values.specs.declared.digest.Fingerprint.{Fingerprint}
-use Rattle.dir_values.specs.Rosters.{has_member}
-use Rattle.vote_terms.specs.Votes.{ReadVote}
-use Rattle.vote_terms.specs.Held.{held, outranks, votes_with}
-use Rattle.consensus_terms.specs.declared.consensus.Consensus.{Consensus}
-use Rattle.consensus_terms.specs.declared.flavour.Flavour.{Flavour}
-use Rattle.consensus_terms.specs.declared.flavour.Flavour.TheVariants.{Ns, Microdesc}
-use Rattle.consensus_terms.specs.declared.signature.SignatureLine.{SignatureLine}
+use Rattle.dir_values.specs.{declared.digest.Fingerprint.Fingerprint, Rosters.has_member}
+use Rattle.vote_terms.specs.{Votes.ReadVote, Held.{held, outranks, votes_with}}
+use Rattle.consensus_terms.specs.declared.{consensus.Consensus.Consensus, flavour.Flavour.{Flavour, TheVariants.Ns}}
+use Rattle.consensus_terms.specs.declared.{flavour.Flavour.TheVariants.Microdesc, signature.SignatureLine.SignatureLine}
 use Rattle.compute_terms.specs.Consensuses.{consensus}
-use Rattle.period_terms.specs.declared.answer.Advance.{Advance}
-use Rattle.period_terms.specs.declared.answer.Advance.TheVariants as moments
-use Rattle.period_terms.specs.declared.answer.Offer.{Offer}
-use Rattle.period_terms.specs.declared.answer.SignIn.{SignIn}
-use Rattle.period_terms.specs.declared.event.Signing.{Signing}
-use Rattle.period_terms.specs.declared.signature.OfferedSignature.{OfferedSignature}
-use Rattle.period_terms.specs.declared.stage.Stage.{Stage}
+use Rattle.period_terms.specs.declared.{answer.{Advance.Advance, Offer.Offer, SignIn.SignIn}, event.Signing.Signing}
+use Rattle.period_terms.specs.declared.{signature.OfferedSignature.OfferedSignature, stage.Stage.Stage}
 use Rattle.period_terms.specs.declared.stage.Stage.TheVariants.{Voting, Frozen, Computed, Signed, Ended}
-use Rattle.period_terms.specs.declared.state.State.{State}
-use Rattle.period_terms.specs.States.{Outcome, consensus_of, is_voting, vote_of}
-use Rattle.period_terms.specs.Offers.{with_vote}
-use Rattle.period_terms.specs.SignIns.{line_of, with_line}
-use Rattle.period_terms.specs.Steps.{moment_changes}
-use Rattle.period_terms.specs.Histories.{accepts, still_accepted}
-use Rattle.period_laws.proofs.Members.{In, in_either}
-use Rattle.period_terms.proofs.Placing.{placed_stays, held_ascends, held_push}
-use Rattle.period_laws.proofs.Rows.{Offering, Advancing, SigningIn, refused, had}
-use Rattle.period_laws.proofs.Rows.{kept, stays, freezes, computes, gives_up, passes_over, signs, publishes, misses}
-use Rattle.period_laws.proofs.Rows.{begins, refuses, keeps}
+use Rattle.period_terms.specs.{declared.state.State.State, States.{Outcome, consensus_of, is_voting, vote_of}}
+use Rattle.period_terms.specs.{Offers.with_vote, SignIns.{line_of, with_line}, Steps.moment_changes, Histories.accepts}
+use Rattle.period_terms.{specs.Histories.still_accepted, proofs.Placing.{placed_stays, held_ascends, held_push}}
+use Rattle.period_terms.specs.declared.answer.Advance.TheVariants as moments
+use Rattle.period_laws.proofs.{Members.{In, in_either}, Rows.{Offering, Advancing, SigningIn, refused, had, kept}}
+use Rattle.period_laws.proofs.Rows.{stays, freezes, computes, gives_up, passes_over, signs, publishes, misses, begins}
+use Rattle.period_laws.proofs.Rows.{refuses, keeps}
 
 -- whether a consensus may be computed at a stage
 abbrev pub is_set : Stage → Bool

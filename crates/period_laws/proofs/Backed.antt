@@ -1,25 +1,16 @@
 -- What was checked of what comes is known of each signature that is held.
-use Rattle.std.proofs.Common.{◌≡◌, true, ℕ, List}
-use Rattle.std.specs.Prelude.{Contains}
+use Rattle.std.{proofs.Common.{◌≡◌, true, ℕ, List}, specs.Prelude.Contains}
 use Rattle.sha1.specs.Sha1.{sha1}
 use Rattle.key_port.specs.Answers.{Relation, Rules}
 use Rattle.key_port.specs.declared.verifier.KeyKind.TheVariants as key_kind
-use Rattle.dir_values.specs.declared.digest.Fingerprint.{Fingerprint}
-use Rattle.dir_values.specs.Rosters.{has_member}
+use Rattle.dir_values.specs.{declared.digest.Fingerprint.Fingerprint, Rosters.has_member}
 use Rattle.vote_terms.specs.Votes.{ReadVote}
-use Rattle.consensus_terms.specs.declared.flavour.Flavour.{Flavour}
-use Rattle.consensus_terms.specs.declared.signature.SignatureLine.{SignatureLine}
-use Rattle.period_terms.specs.declared.event.Event.{Event}
-use Rattle.period_terms.specs.declared.event.Event.TheVariants.{Offered, Advanced, SignedIn, Read}
-use Rattle.period_terms.specs.declared.state.State.{State}
-use Rattle.period_terms.specs.States.{lines_of}
-use Rattle.period_terms.specs.Histories.{IsStart, run}
-use Rattle.period_laws.specs.Periods.{IsSignedWell, IsAccepted}
-use Rattle.period_laws.specs.Checked.{IsChecked, AreChecked}
-use Rattle.period_laws.proofs.Members.{In}
-use Rattle.period_laws.proofs.Signers.{Telling}
+use Rattle.consensus_terms.specs.declared.{flavour.Flavour.Flavour, signature.SignatureLine.SignatureLine}
+use Rattle.period_terms.specs.declared.event.Event.{Event, TheVariants.{Offered, Advanced, SignedIn, Read}}
+use Rattle.period_terms.specs.{declared.state.State.State, States.lines_of, Histories.{IsStart, run}}
+use Rattle.period_laws.{specs.{Periods.{IsSignedWell, IsAccepted}, Checked.{IsChecked, AreChecked}}, proofs.Members.In}
+use Rattle.period_laws.proofs.{Signers.Telling, LinesTold.{IsTold, along_weaker}}
 use Rattle.period_laws.proofs.LinesTold as lines
-use Rattle.period_laws.proofs.LinesTold.{IsTold, along_weaker}
 
 -- ---- what was checked
 

@@ -1,39 +1,24 @@
 -- What an authority signs and publishes.
-use Rattle.std.proofs.Common.{◌≡◌, ℕ, ◌<◌, ◌≤◌, ◌⊎◌, ◌&&◌, Bool, true, false, List, [], ◌∷◌, ◌++◌}
-use Rattle.std.proofs.Common.{length, count_by, Option, Some, refl, sym, ◌∙◌, subst, ⊎_elim}
-use Rattle.std.proofs.Common.{◌≢◌}
-use Rattle.std.proofs.lemmas.Bool.{false≢true}
-use Rattle.dir_values.specs.declared.digest.Fingerprint.{Fingerprint}
-use Rattle.dir_values.specs.Digests.{same_identity}
+use Rattle.std.proofs.Common.{◌≡◌, ℕ, ◌<◌, ◌≤◌, ◌⊎◌, ◌&&◌, Bool, true, false, List, [], ◌∷◌, ◌++◌, length, count_by}
+use Rattle.std.proofs.{Common.{Option, Some, refl, sym, ◌∙◌, subst, ⊎_elim, ◌≢◌}, lemmas.Bool.false≢true}
+use Rattle.dir_values.specs.{declared.digest.Fingerprint.Fingerprint, Digests.same_identity}
 use Rattle.vote_terms.proofs.Orders.{same_one}
-use Rattle.consensus_terms.specs.declared.consensus.Consensus.{Consensus}
-use Rattle.consensus_terms.specs.declared.flavour.Flavour.{Flavour}
-use Rattle.consensus_terms.specs.declared.flavour.Flavour.TheVariants.{Ns, Microdesc}
-use Rattle.consensus_terms.specs.declared.signature.SignatureLine.{SignatureLine}
-use Rattle.count_terms.specs.Counts.{over}
-use Rattle.period_terms.specs.declared.answer.Advance.{Advance}
-use Rattle.period_terms.specs.declared.answer.Advance.TheVariants as moments
-use Rattle.period_terms.specs.declared.event.Event.{Event}
-use Rattle.period_terms.specs.declared.event.Signing.{Signing}
-use Rattle.period_terms.specs.declared.event.Event.TheVariants.{Offered, Advanced, SignedIn, Read}
-use Rattle.period_terms.specs.declared.stage.Stage.TheVariants.{Frozen, Computed, Signed}
-use Rattle.period_terms.specs.declared.state.State.{State}
+use Rattle.consensus_terms.specs.declared.{consensus.Consensus.Consensus, flavour.Flavour.{Flavour, TheVariants.Ns}}
+use Rattle.consensus_terms.specs.declared.{flavour.Flavour.TheVariants.Microdesc, signature.SignatureLine.SignatureLine}
 use Rattle.consensus_terms.specs.Texts.{unsigned}
-use Rattle.period_terms.specs.States.{Outcome, digest_of, has_line, is_signed, signers_in}
-use Rattle.period_terms.specs.Advances.{advance}
+use Rattle.count_terms.specs.Counts.{over}
+use Rattle.period_terms.specs.declared.{answer.Advance.Advance, event.Event.{Event, TheVariants.{Offered, Advanced}}}
+use Rattle.period_terms.specs.declared.event.{Event.TheVariants.{SignedIn, Read}, Signing.Signing}
+use Rattle.period_terms.specs.declared.{stage.Stage.TheVariants.{Frozen, Computed, Signed}, state.State.State}
+use Rattle.period_terms.specs.{States.{Outcome, digest_of, has_line, is_signed, signers_in}, Advances.advance}
 use Rattle.period_terms.specs.Steps.{step, moment_changes}
+use Rattle.period_terms.specs.declared.answer.Advance.TheVariants as moments
 use Rattle.period_laws.specs.Worlds as w
-use Rattle.period_laws.specs.Worlds.{SignedDigest, Publication, signed_by}
-use Rattle.period_laws.specs.Worlds.{signs_both, signs_at, signs_in, publishes_at, publishes_in, publications}
-use Rattle.period_laws.specs.Worlds.{publication, published_as, is_among}
-use Rattle.period_laws.proofs.Members.{In, in_either, any_from, over_with}
-use Rattle.period_laws.proofs.Rows.{Advancing, advancing}
-use Rattle.period_laws.proofs.Rows.{stays, freezes, computes, gives_up, passes_over, signs, publishes, misses}
-use Rattle.period_laws.proofs.Rows.{begins}
-use Rattle.period_laws.proofs.Digests.{among_more}
-use Rattle.period_laws.proofs.Soundness.{Lined, SoundAt}
-use Rattle.period_laws.proofs.Soundness.{quiet}
-use Rattle.period_laws.proofs.PeriodStateSteps.{signed_is_own}
+use Rattle.period_laws.specs.Worlds.{SignedDigest, Publication, signed_by, signs_both, signs_at, signs_in, publishes_at}
+use Rattle.period_laws.specs.Worlds.{publishes_in, publications, publication, published_as, is_among}
+use Rattle.period_laws.proofs.{Members.{In, in_either, any_from, over_with}, Rows.{Advancing, advancing, stays}}
+use Rattle.period_laws.proofs.Rows.{freezes, computes, gives_up, passes_over, signs, publishes, misses, begins}
+use Rattle.period_laws.proofs.{Digests.among_more, Soundness.{Lined, SoundAt, quiet}, PeriodStateSteps.signed_is_own}
 
 -- ---- what an authority signs
 

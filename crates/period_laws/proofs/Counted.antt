@@ -1,33 +1,22 @@
 -- Those who have a signature that is held, counted, are the signers of the digest.
 use Rattle.std.proofs.Common.{◌≡◌, ℕ, ◌+◌, ◌⊎◌, ◌&&◌, ◌||◌, not, Bool, true, false, cond, List, [], ◌∷◌, length, map}
 use Rattle.std.proofs.Common.{Option, Some, None, refl, sym, ap, ◌∙◌, subst, inl, inr, ⊎_elim, arith, bytes_eq}
-use Rattle.std.proofs.Common.{count_by}
-use Rattle.std.specs.Prelude.{AllPairs, Contains}
-use Rattle.std.proofs.lemmas.Bool.{false≢true, false_from_ne_true}
+use Rattle.std.{proofs.{Common.count_by, lemmas.Bool.{false≢true, false_from_ne_true}}, specs.Prelude.AllPairs}
+use Rattle.std.specs.Prelude.{Contains}
 use Rattle.sha1.specs.Sha1.{sha1}
 use Rattle.key_port.specs.Answers.{Rules}
-use Rattle.dir_values.specs.declared.digest.Fingerprint.{Fingerprint}
-use Rattle.dir_values.specs.Digests.{same_identity}
-use Rattle.dir_values.specs.Rosters.{has_member}
-use Rattle.vote_terms.specs.Votes.{ReadVote}
-use Rattle.vote_terms.specs.Held.{held, vote_of}
-use Rattle.vote_terms.proofs.HeldLaw.{held_law}
-use Rattle.vote_terms.proofs.Orders.{same_one}
-use Rattle.consensus_terms.specs.declared.consensus.Consensus.{Consensus}
-use Rattle.consensus_terms.specs.declared.signature.SignatureLine.{SignatureLine}
-use Rattle.detached_sigs.specs.declared.key.SignerKey.{SignerKey}
-use Rattle.detached_sigs.specs.Signers.{AreSigners, CountsSigners, is_line_of, is_signed, has_good_line, has_bad_lines}
-use Rattle.period_terms.specs.declared.state.State.{State}
-use Rattle.period_terms.specs.States.{digest_of, lines_of, has_line}
-use Rattle.period_terms.specs.Histories.{run, accepted}
-use Rattle.period_terms.specs.Keys.{signer_key}
-use Rattle.period_laws.specs.Checked.{IsChecked, SignersAreCounted}
-use Rattle.period_laws.proofs.Accepted.{are_held, are_wanted, roster_stays}
-use Rattle.period_laws.proofs.Backed.{NamesIt, Counts, named}
-use Rattle.period_laws.proofs.Digests.{itself, same_bytes}
-use Rattle.period_laws.proofs.LinesTold.{IsTold, along_weaker, lines_are_good}
-use Rattle.period_laws.proofs.Members.{In, in_to, any_to, any_from, found, tally, count_is}
-use Rattle.period_laws.proofs.SigningKeys.{with_key, picked, of_picked, once, all_in}
+use Rattle.dir_values.specs.{declared.digest.Fingerprint.Fingerprint, Digests.same_identity, Rosters.has_member}
+use Rattle.vote_terms.{specs.{Votes.ReadVote, Held.{held, vote_of}}, proofs.{HeldLaw.held_law, Orders.same_one}}
+use Rattle.consensus_terms.specs.declared.{consensus.Consensus.Consensus, signature.SignatureLine.SignatureLine}
+use Rattle.detached_sigs.specs.{declared.key.SignerKey.SignerKey, Signers.{AreSigners, CountsSigners, is_line_of}}
+use Rattle.detached_sigs.specs.Signers.{is_signed, has_good_line, has_bad_lines}
+use Rattle.period_terms.specs.{declared.state.State.State, States.{digest_of, lines_of, has_line}, Histories.run}
+use Rattle.period_terms.specs.{Histories.accepted, Keys.signer_key}
+use Rattle.period_laws.{specs.Checked.{IsChecked, SignersAreCounted}, proofs.Accepted.{are_held, are_wanted}}
+use Rattle.period_laws.proofs.{Accepted.roster_stays, Backed.{NamesIt, Counts, named}, Digests.{itself, same_bytes}}
+use Rattle.period_laws.proofs.{LinesTold.{IsTold, along_weaker, lines_are_good}, Members.{In, in_to, any_to, any_from}}
+use Rattle.period_laws.proofs.{Members.{found, tally, count_is}, SigningKeys.{with_key, picked, of_picked, once}}
+use Rattle.period_laws.proofs.SigningKeys.{all_in}
 
 module _ (rules : Rules) (digest : List ℕ) (roster : List Fingerprint) (votes : List ReadVote)
     (held_lines : List SignatureLine) (is : Counts rules digest roster votes held_lines) where

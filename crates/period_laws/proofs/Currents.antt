@@ -1,45 +1,27 @@
 -- What stands as the current document was published.
-use Rattle.std.proofs.Common.{◌≡◌, ℕ, ◌≤◌, ◌⊎◌, Bool, true, List, [], ◌∷◌, ◌++◌, length}
-use Rattle.std.proofs.Common.{Option, Some, None, refl, sym, ap, ◌∙◌, subst, inl, inr, ⊎_elim}
-use Rattle.std.specs.Prelude.{Contains, map}
+use Rattle.std.proofs.Common.{◌≡◌, ℕ, ◌≤◌, ◌⊎◌, Bool, true, List, [], ◌∷◌, ◌++◌, length, Option, Some, None, refl, sym}
+use Rattle.std.{proofs.Common.{ap, ◌∙◌, subst, inl, inr, ⊎_elim}, specs.Prelude.{Contains, map}}
 use Rattle.key_port.specs.Answers.{Rules}
 use Rattle.dir_values.specs.declared.digest.Fingerprint.{Fingerprint}
 use Rattle.vote_terms.specs.Acceptable.{IsAcceptable}
-use Rattle.consensus_terms.specs.declared.consensus.Consensus.{Consensus}
-use Rattle.consensus_terms.specs.declared.flavour.Flavour.{Flavour}
-use Rattle.consensus_terms.specs.declared.flavour.Flavour.TheVariants.{Ns, Microdesc}
-use Rattle.consensus_terms.specs.declared.signature.SignatureLine.{SignatureLine}
-use Rattle.consensus_terms.specs.Texts.{unsigned}
-use Rattle.consensus_terms.specs.Signed.{signed}
+use Rattle.consensus_terms.specs.declared.{consensus.Consensus.Consensus, flavour.Flavour.{Flavour, TheVariants.Ns}}
+use Rattle.consensus_terms.specs.declared.{flavour.Flavour.TheVariants.Microdesc, signature.SignatureLine.SignatureLine}
+use Rattle.consensus_terms.specs.{Texts.unsigned, Signed.signed}
 use Rattle.count_terms.specs.Counts.{over}
 use Rattle.detached_sigs.specs.Signers.{CountsSigners}
-use Rattle.period_terms.specs.declared.answer.Advance.{Advance}
+use Rattle.period_terms.specs.declared.{answer.{Advance.Advance, Answer.Answer}, entry.Entry.Entry, event.Event.Event}
+use Rattle.period_terms.specs.declared.event.{Event.TheVariants.{Offered, Advanced, SignedIn, Read}, Signing.Signing}
+use Rattle.period_terms.specs.{declared.state.State.State, States.{lines_of, digest_of, is_signed, signers}}
+use Rattle.period_terms.specs.{Offers.offer, Advances.advance, SignIns.sign_in, Steps.step, Readings.current_of}
+use Rattle.period_terms.specs.{Histories.{IsStart, IsHistory, run, after}, Keys.signer_key}
 use Rattle.period_terms.specs.declared.answer.Advance.TheVariants as moments
-use Rattle.period_terms.specs.declared.answer.Answer.{Answer}
-use Rattle.period_terms.specs.declared.entry.Entry.{Entry}
-use Rattle.period_terms.specs.declared.event.Event.{Event}
-use Rattle.period_terms.specs.declared.event.Event.TheVariants.{Offered, Advanced, SignedIn, Read}
-use Rattle.period_terms.specs.declared.event.Signing.{Signing}
-use Rattle.period_terms.specs.declared.state.State.{State}
-use Rattle.period_terms.specs.States.{lines_of, digest_of, is_signed, signers}
-use Rattle.period_terms.specs.Offers.{offer}
-use Rattle.period_terms.specs.Advances.{advance}
-use Rattle.period_terms.specs.SignIns.{sign_in}
-use Rattle.period_terms.specs.Steps.{step}
-use Rattle.period_terms.specs.Readings.{current_of}
-use Rattle.period_terms.specs.Histories.{IsStart, IsHistory, run, after}
-use Rattle.period_terms.specs.Keys.{signer_key}
-use Rattle.period_laws.specs.Periods.{IsAccepted}
-use Rattle.period_laws.specs.Checked.{IsChecked, AreChecked, anything, events_of}
+use Rattle.period_laws.specs.{Periods.IsAccepted, Checked.{IsChecked, AreChecked, anything, events_of}}
 use Rattle.period_laws.specs.Publications.{of_flavour, PublishNone, advance_entry, MayPublish, WasPublished}
-use Rattle.period_laws.specs.Publications.{CurrentsWerePublished}
+use Rattle.period_laws.{specs.Publications.CurrentsWerePublished, proofs.Accepted.{of_accepted, roster_stays}}
+use Rattle.period_laws.proofs.{Backed.lines_accepted, Counted.are_counted, Verified.{runs, along_front, are_acceptable}}
+use Rattle.period_laws.proofs.{Rows.{offering, advancing, signing_in}, Publishing.{Publishes, of_moment, vote_leaves}}
+use Rattle.period_laws.proofs.Publishing.{signature_leaves, begun}
 use Rattle.period_laws.specs.Publications as publications
-use Rattle.period_laws.proofs.Accepted.{of_accepted, roster_stays}
-use Rattle.period_laws.proofs.Backed.{lines_accepted}
-use Rattle.period_laws.proofs.Counted.{are_counted}
-use Rattle.period_laws.proofs.Verified.{runs, along_front, are_acceptable}
-use Rattle.period_laws.proofs.Rows.{offering, advancing, signing_in}
-use Rattle.period_laws.proofs.Publishing.{Publishes, of_moment, vote_leaves, signature_leaves, begun}
 
 -- a publication of a flavour in a history from a state on, and none later
 record Found (s : State) (story : List Entry) (flavour : Flavour) (text : List ℕ) : Type 0 where

@@ -1,17 +1,13 @@
 -- What was signed: the test of it, and more of it.
 use Rattle.std.proofs.Common.{◌≡◌, ℕ, ◌&&◌, ◌==◌, Bool, true, false, List, ◌++◌, refl, ap, ◌∙◌, subst, inl, bytes_eq}
-use Rattle.std.specs.Cmp.Lexicographic.{bytes_decides}
-use Rattle.std.proofs.lemmas.Bool.{false≢true, eqb-true, eq-eqb}
-use Rattle.dir_values.specs.declared.digest.Fingerprint.{Fingerprint}
-use Rattle.dir_values.specs.Digests.{same_identity}
-use Rattle.dir_values.specs.Rosters.{has_member}
+use Rattle.std.{proofs.lemmas.Bool.{false≢true, eqb-true, eq-eqb}, specs.Cmp.Lexicographic.bytes_decides}
+use Rattle.dir_values.specs.{declared.digest.Fingerprint.Fingerprint, Digests.same_identity, Rosters.has_member}
 use Rattle.dir_values.proofs.Orders.{same_text}
 use Rattle.vote_terms.proofs.Orders.{same_one}
-use Rattle.consensus_terms.specs.declared.flavour.Flavour.{Flavour}
-use Rattle.consensus_terms.specs.declared.flavour.Flavour.TheVariants.{Ns, Microdesc}
-use Rattle.period_laws.specs.Worlds.{SignedDigest, same_flavour, same_signed, signed_by, is_among}
+use Rattle.consensus_terms.specs.declared.flavour.Flavour.{Flavour, TheVariants.{Ns, Microdesc}}
+use Rattle.period_laws.{specs.Worlds.{SignedDigest, same_flavour, same_signed, signed_by, is_among}, proofs.Members.In}
+use Rattle.period_laws.proofs.Members.{any_to, any_from, in_both}
 pub use Rattle.period_terms.proofs.Placing.{itself}
-use Rattle.period_laws.proofs.Members.{In, any_to, any_from, in_both}
 
 pub and_true : (x y : Bool) → (x && y) ≡ true → (x ≡ true) × (y ≡ true)
 and_true true y h = (refl, h)

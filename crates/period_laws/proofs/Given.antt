@@ -3,20 +3,15 @@ use Rattle.std.proofs.Common.{◌≡◌, ℕ, Bool, true, false, cond, not, List
 use Rattle.std.proofs.Common.{None, refl, ap, ◌∙◌}
 use Rattle.dir_values.specs.Digests.{same_identity}
 use Rattle.vote_terms.specs.Votes.{ReadVote}
-use Rattle.consensus_terms.specs.declared.consensus.Consensus.{Consensus}
-use Rattle.consensus_terms.specs.declared.flavour.Flavour.TheVariants.{Ns, Microdesc}
+use Rattle.consensus_terms.specs.declared.{consensus.Consensus.Consensus, flavour.Flavour.TheVariants.{Ns, Microdesc}}
 use Rattle.consensus_terms.specs.declared.signature.SignatureLine.{SignatureLine}
-use Rattle.period_terms.specs.declared.answer.Advance.{Advance}
-use Rattle.period_terms.specs.declared.event.Signing.{Signing}
-use Rattle.period_terms.specs.declared.event.Signing.TheVariants.{Given, SignerFails, VerifierFails, Refused}
-use Rattle.period_terms.specs.declared.stage.Stage.{Stage}
-use Rattle.period_terms.specs.declared.stage.Stage.TheVariants.{Voting, Frozen, Computed, Signed, Ended}
-use Rattle.period_terms.specs.declared.state.State.{State}
-use Rattle.period_terms.specs.States.{Outcome, vote_of, with_signature}
-use Rattle.period_terms.specs.Advances.{advance, advance_at, with_consensus, sign_or_pass, sign_with, own_line}
-use Rattle.period_terms.specs.Advances.{signature_in, given_told}
-use Rattle.period_laws.specs.Periods.{GivenIsTold}
-use Rattle.period_laws.proofs.Digests.{itself}
+use Rattle.period_terms.specs.declared.{answer.Advance.Advance, event.Signing.{Signing, TheVariants.Given}}
+use Rattle.period_terms.specs.declared.event.Signing.TheVariants.{SignerFails, VerifierFails, Refused}
+use Rattle.period_terms.specs.declared.stage.Stage.{Stage, TheVariants.{Voting, Frozen, Computed, Signed, Ended}}
+use Rattle.period_terms.specs.{declared.state.State.State, States.{Outcome, vote_of, with_signature}, Advances.advance}
+use Rattle.period_terms.specs.Advances.{advance_at, with_consensus, sign_or_pass, sign_with, own_line, signature_in}
+use Rattle.period_terms.specs.Advances.{given_told}
+use Rattle.period_laws.{specs.Periods.GivenIsTold, proofs.Digests.itself}
 
 found_by : (b : Bool) (line x : SignatureLine) (xs : List SignatureLine) → same_identity x.identity line.identity ≡ b
     → find (λ (o : SignatureLine). same_identity o.identity line.identity)

@@ -1,33 +1,22 @@
 -- What holds of a world whatever happens.
 use Rattle.std.proofs.Common.{◌≡◌, ℕ, ◌<◌, ◌≤◌, ◌⊎◌, ◌&&◌, Bool, true, false, not, cond, is_some, List, [], ◌∷◌, ◌++◌}
-use Rattle.std.proofs.Common.{length, count_by, Option, Some, None, refl, sym, ap, ◌∙◌, subst, inl, inr, ⊎_elim}
-use Rattle.std.proofs.Common.{arith, ◌≢◌, bytes_eq}
-use Rattle.std.proofs.lemmas.Bool.{false≢true, false_from_ne_true}
+use Rattle.std.proofs.Common.{length, count_by, Option, Some, None, refl, sym, ap, ◌∙◌, subst, inl, inr, ⊎_elim, arith}
+use Rattle.std.proofs.{Common.{◌≢◌, bytes_eq}, lemmas.Bool.{false≢true, false_from_ne_true}}
 use Rattle.std.specs.Cmp.Lexicographic.{bytes_decides}
-use Rattle.dir_values.proofs.Orders.{same_text}
-use Rattle.dir_values.specs.declared.digest.Fingerprint.{Fingerprint}
-use Rattle.dir_values.specs.Digests.{same_identity}
+use Rattle.dir_values.{proofs.Orders.same_text, specs.{declared.digest.Fingerprint.Fingerprint, Digests.same_identity}}
 use Rattle.dir_values.specs.Rosters.{has_member}
 use Rattle.vote_terms.proofs.Orders.{same_one}
-use Rattle.consensus_terms.specs.declared.consensus.Consensus.{Consensus}
-use Rattle.consensus_terms.specs.declared.flavour.Flavour.{Flavour}
+use Rattle.consensus_terms.specs.declared.{consensus.Consensus.Consensus, flavour.Flavour.Flavour}
 use Rattle.consensus_terms.specs.declared.signature.SignatureLine.{SignatureLine}
 use Rattle.count_terms.specs.Counts.{over}
 use Rattle.period_terms.specs.declared.answer.Advance.TheVariants as moments
-use Rattle.period_terms.specs.declared.event.Event.{Event}
-use Rattle.period_terms.specs.declared.state.State.{State}
-use Rattle.period_terms.specs.States.{digest_of}
-use Rattle.period_terms.specs.Steps.{step}
+use Rattle.period_terms.specs.{declared.{event.Event.Event, state.State.State}, States.digest_of, Steps.step}
 use Rattle.period_laws.specs.Worlds as w
-use Rattle.period_laws.specs.Worlds.{World, WorldEvent, At, Elsewhere, SignedDigest, Publication, signed_by}
-use Rattle.period_laws.specs.Worlds.{signs_in, publishes_in}
-use Rattle.period_laws.specs.Worlds.{published_as, is_among, may_come, IsWorldStart, PeriodStatesSignOnce}
-use Rattle.period_laws.specs.Worlds.{SignedTwice, PublishedAgree, AllHonestAgree}
-use Rattle.period_laws.proofs.Members.{In, in_from, in_to, in_either, shared}
-use Rattle.period_laws.proofs.Digests.{member_of, has, and_true, itself}
-use Rattle.period_laws.proofs.Soundness.{has_signed, Ours, SoundAt, sound_more}
-use Rattle.period_laws.proofs.Soundness.{no_claim}
-use Rattle.period_laws.proofs.PeriodStateSteps.{step_keeps}
+use Rattle.period_laws.specs.Worlds.{World, WorldEvent, At, Elsewhere, SignedDigest, Publication, signed_by, signs_in}
+use Rattle.period_laws.specs.Worlds.{publishes_in, published_as, is_among, may_come, IsWorldStart, PeriodStatesSignOnce}
+use Rattle.period_laws.{specs.Worlds.{SignedTwice, PublishedAgree, AllHonestAgree}, proofs.Members.{In, in_from, in_to}}
+use Rattle.period_laws.proofs.{Members.{in_either, shared}, Digests.{member_of, has, and_true, itself}}
+use Rattle.period_laws.proofs.{Soundness.{has_signed, Ours, SoundAt, sound_more, no_claim}, PeriodStateSteps.step_keeps}
 use Rattle.period_laws.proofs.Claims.{New, new_in, Backed, backed_more, some_is, published_in}
 
 -- ---- the world

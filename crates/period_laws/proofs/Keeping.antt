@@ -1,17 +1,12 @@
 -- What is surely kept, and what is surely computed.
 use Rattle.std.proofs.Common.{◌≡◌, ℕ, ◌+◌, ◌<◌, true, false, nat_le, Option, Some, refl, ap, ◌∙◌, bytes_eq, arith}
-use Rattle.std.specs.Cmp.Lexicographic.{bytes_decides}
-use Rattle.std.proofs.lemmas.Bool.{eq-eqb}
+use Rattle.std.{proofs.lemmas.Bool.eq-eqb, specs.Cmp.Lexicographic.bytes_decides}
 use Rattle.vote_terms.specs.Votes.{ReadVote}
-use Rattle.period_terms.specs.declared.event.Via.{Via}
-use Rattle.period_terms.specs.declared.state.State.{State}
-use Rattle.period_terms.specs.Schedules.{cutoff_of}
-use Rattle.period_terms.specs.States.{is_voting, digest_of}
-use Rattle.period_terms.specs.Offers.{offer, is_late, most_vote_changes}
-use Rattle.period_terms.specs.Advances.{advance}
+use Rattle.period_terms.specs.{declared.{event.Via.Via, state.State.State}, Schedules.cutoff_of, States.is_voting}
+use Rattle.period_terms.specs.{States.digest_of, Offers.{offer, is_late, most_vote_changes}, Advances.advance}
+use Rattle.period_terms.specs.SignIns.{sign_in, sign_in_over}
 use Rattle.consensus_terms.specs.declared.consensus.Consensus.{Consensus}
 use Rattle.period_terms.specs.declared.answer.SignIn.TheVariants as signs
-use Rattle.period_terms.specs.SignIns.{sign_in, sign_in_over}
 use Rattle.period_laws.specs.Chances.{IsInTime, FirstVotesAreKept, GreaterVotesReplace, SignaturesAreKept}
 use Rattle.period_laws.specs.Chances.{MajoritiesCompute}
 

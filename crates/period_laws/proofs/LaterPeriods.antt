@@ -1,9 +1,7 @@
 -- The next period begins later.
 use Rattle.std.proofs.Common.{◌≡◌, ℕ, ◌<◌, Some, subst}
-use Rattle.vote_schedule.specs.Schedules.{Schedule, IsSchedule}
-use Rattle.vote_schedule.specs.Moments.{AnswersNext}
-use Rattle.period_terms.specs.Schedules.{next_valid_after}
-use Rattle.period_terms.proofs.NextPeriods.{next_is_next}
+use Rattle.vote_schedule.specs.{Schedules.{Schedule, IsSchedule}, Moments.AnswersNext}
+use Rattle.period_terms.{specs.Schedules.next_valid_after, proofs.NextPeriods.next_is_next}
 
 -- the next period begins after this one
 pub later : (schedule : Schedule) (after now next : ℕ) → IsSchedule schedule → next_valid_after schedule after now ≡

@@ -1,31 +1,20 @@
 -- A history leads where the events led, and the front counts its entries.
 use Rattle.std.proofs.Common.{◌≡◌, ℕ, ◌+◌, Bool, true, false, List, [], ◌∷◌, ◌++◌, length, refl, sym, ap, ◌∙◌, subst}
-use Rattle.std.proofs.Common.{arith, Some, None, option_to_list, cond}
-use Rattle.std.proofs.lemmas.Bool.{false≢true}
-use Rattle.consensus_terms.specs.declared.flavour.Flavour.{Flavour}
-use Rattle.consensus_terms.specs.declared.flavour.Flavour.TheVariants.{Ns, Microdesc}
+use Rattle.std.proofs.{Common.{arith, Some, None, option_to_list, cond}, lemmas.Bool.false≢true}
+use Rattle.consensus_terms.specs.declared.flavour.Flavour.{Flavour, TheVariants.{Ns, Microdesc}}
 use Rattle.consensus_terms.specs.declared.signature.SignatureLine.{SignatureLine}
 use Rattle.vote_terms.specs.Votes.{ReadVote}
-use Rattle.period_terms.specs.declared.answer.Answer.{Answer}
-use Rattle.period_terms.specs.declared.answer.Advance.{Advance}
-use Rattle.period_terms.specs.declared.answer.Offer.{Offer}
-use Rattle.period_terms.specs.declared.answer.SignIn.{SignIn}
-use Rattle.period_terms.specs.declared.entry.Entry.{Entry}
-use Rattle.period_terms.specs.declared.event.Event.{Event}
-use Rattle.period_terms.specs.declared.event.Signing.{Signing}
-use Rattle.period_terms.specs.declared.event.Event.TheVariants.{Offered, Advanced, SignedIn, Read}
-use Rattle.period_terms.specs.declared.signature.OfferedSignature.{OfferedSignature}
-use Rattle.period_terms.specs.declared.state.State.{State}
-use Rattle.period_terms.specs.States.{Outcome}
-use Rattle.period_terms.specs.Offers.{offer}
-use Rattle.period_terms.specs.Advances.{advance}
-use Rattle.period_terms.specs.SignIns.{sign_in, line_of, with_line}
+use Rattle.period_terms.specs.declared.answer.{Answer.Answer, Advance.Advance, Offer.Offer, SignIn.SignIn}
+use Rattle.period_terms.specs.declared.{entry.Entry.Entry, event.Event.{Event, TheVariants.{Offered, Advanced}}}
+use Rattle.period_terms.specs.declared.event.{Event.TheVariants.{SignedIn, Read}, Signing.Signing}
+use Rattle.period_terms.specs.declared.{signature.OfferedSignature.OfferedSignature, state.State.State}
+use Rattle.period_terms.specs.{States.Outcome, Offers.offer, Advances.advance, SignIns.{sign_in, line_of, with_line}}
 use Rattle.period_terms.specs.Steps.{step, changes, offer_changes, moment_changes, sign_in_changes}
 use Rattle.period_terms.specs.Histories.{IsHistory, run, after, entry_of, history}
 use Rattle.period_laws.specs.Periods.{HistoryLeads, FrontCounts, HistoryIsOne, HistoryGoesOn, GoesOn, FrontOfHistory}
-use Rattle.period_laws.proofs.Rows.{Offering, Advancing, SigningIn, offering, advancing, signing_in, refused, had}
-use Rattle.period_laws.proofs.Rows.{kept, stays, freezes, computes, gives_up, passes_over, signs, publishes, misses}
-use Rattle.period_laws.proofs.Rows.{begins, refuses, keeps}
+use Rattle.period_laws.proofs.Rows.{Offering, Advancing, SigningIn, offering, advancing, signing_in, refused, had, kept}
+use Rattle.period_laws.proofs.Rows.{stays, freezes, computes, gives_up, passes_over, signs, publishes, misses, begins}
+use Rattle.period_laws.proofs.Rows.{refuses, keeps}
 
 -- an event that changes nothing leaves the state; each other raises the front by one
 data Effect (s : State) (passed : Bool) (next : State) : Type 0 where

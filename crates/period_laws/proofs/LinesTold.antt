@@ -2,22 +2,14 @@
 use Rattle.std.proofs.Common.{◌≡◌, true, List, [], ◌∷◌, refl, sym, subst}
 use Rattle.key_port.specs.Answers.{Relation, Rules}
 use Rattle.key_port.specs.declared.verifier.KeyKind.TheVariants as key_kind
-use Rattle.consensus_terms.specs.declared.flavour.Flavour.{Flavour}
-use Rattle.consensus_terms.specs.declared.flavour.Flavour.TheVariants.{Ns, Microdesc}
+use Rattle.consensus_terms.specs.declared.flavour.Flavour.{Flavour, TheVariants.{Ns, Microdesc}}
 use Rattle.consensus_terms.specs.declared.signature.SignatureLine.{SignatureLine}
-use Rattle.period_terms.specs.declared.event.Event.{Event}
-use Rattle.period_terms.specs.declared.event.Event.TheVariants.{Offered, Advanced, SignedIn, Read}
-use Rattle.period_terms.specs.declared.state.State.{State}
-use Rattle.period_terms.specs.States.{lines_of}
-use Rattle.period_terms.specs.Offers.{offer}
-use Rattle.period_terms.specs.Advances.{advance, MayGiveAt}
-use Rattle.period_terms.specs.SignIns.{sign_in, line_of}
-use Rattle.period_terms.specs.Steps.{step}
-use Rattle.period_terms.specs.Histories.{IsStart, run}
-use Rattle.period_laws.specs.Periods.{Along, IsSignedWell, LinesAreAccepted}
-use Rattle.period_laws.proofs.Members.{In, in_from, in_to}
-use Rattle.period_laws.proofs.Rows.{offering, advancing, signing_in}
-use Rattle.period_laws.proofs.Signers.{Telling, TellsOwn, Good, SoundAt, of_vote, of_moment, of_signature}
+use Rattle.period_terms.specs.declared.event.Event.{Event, TheVariants.{Offered, Advanced, SignedIn, Read}}
+use Rattle.period_terms.specs.{declared.state.State.State, States.lines_of, Offers.offer, Advances.{advance, MayGiveAt}}
+use Rattle.period_terms.specs.{SignIns.{sign_in, line_of}, Steps.step, Histories.{IsStart, run}}
+use Rattle.period_laws.{specs.Periods.{Along, IsSignedWell, LinesAreAccepted}, proofs.Members.{In, in_from, in_to}}
+use Rattle.period_laws.proofs.{Rows.{offering, advancing, signing_in}, Signers.{Telling, TellsOwn, Good, SoundAt}}
+use Rattle.period_laws.proofs.Signers.{of_vote, of_moment, of_signature}
 
 -- what is told of what comes
 abbrev pub IsTold : Relation → Rules → Telling → State → Event → Type 0

@@ -1,10 +1,8 @@
 -- Members of lists, tests of some member, and counts of those that pass a test.
 use Rattle.std.proofs.Common.{◌≡◌, ℕ, ◌+◌, ◌*◌, ◌<◌, ◌≤◌, ◌⊎◌, ◌||◌, Bool, true, false, cond, List, [], ◌∷◌, ◌++◌}
-use Rattle.std.proofs.Common.{length, get_or, zero, suc, refl, sym, ◌∙◌, subst, inl, inr, ⊎_elim, arith, fold}
-use Rattle.std.proofs.Common.{count_by, filter, find, Some}
-use Rattle.std.specs.Prelude.{Contains}
-use Rattle.std.specs.List.{list_any}
-use Rattle.std.proofs.lemmas.Bool.{false≢true, ltb-true, lt-ltb}
+use Rattle.std.proofs.Common.{length, get_or, zero, suc, refl, sym, ◌∙◌, subst, inl, inr, ⊎_elim, arith, fold, count_by}
+use Rattle.std.proofs.{Common.{filter, find, Some}, lemmas.Bool.{false≢true, ltb-true, lt-ltb}}
+use Rattle.std.specs.{Prelude.Contains, List.list_any}
 use Rattle.count_terms.specs.Counts.{over}
 
 -- two counts that are more than half of a number are more than it together

@@ -1,42 +1,25 @@
 -- Each step of a state keeps it.
-use Rattle.std.proofs.Common.{◌≡◌, ℕ, ◌<◌, ◌≤◌, ◌⊎◌, ◌&&◌, true, false, not, List, [], ◌∷◌, ◌++◌}
-use Rattle.std.proofs.Common.{Option, Some, None, refl, sym, ap, ◌∙◌, subst, inl, inr, ⊎_elim}
-use Rattle.std.proofs.Common.{filter, ◌≢◌}
-use Rattle.std.proofs.lemmas.Bool.{false≢true}
-use Rattle.dir_values.specs.declared.digest.Fingerprint.{Fingerprint}
-use Rattle.dir_values.specs.Digests.{same_identity}
-use Rattle.consensus_terms.specs.declared.consensus.Consensus.{Consensus}
-use Rattle.consensus_terms.specs.declared.flavour.Flavour.{Flavour}
-use Rattle.consensus_terms.specs.declared.flavour.Flavour.TheVariants.{Ns, Microdesc}
-use Rattle.consensus_terms.specs.declared.signature.SignatureLine.{SignatureLine}
-use Rattle.period_terms.specs.declared.answer.Advance.{Advance}
+use Rattle.std.proofs.Common.{◌≡◌, ℕ, ◌<◌, ◌≤◌, ◌⊎◌, ◌&&◌, true, false, not, List, [], ◌∷◌, ◌++◌, Option, Some, None}
+use Rattle.std.proofs.{Common.{refl, sym, ap, ◌∙◌, subst, inl, inr, ⊎_elim, filter, ◌≢◌}, lemmas.Bool.false≢true}
+use Rattle.dir_values.specs.{declared.digest.Fingerprint.Fingerprint, Digests.same_identity}
+use Rattle.consensus_terms.specs.declared.{consensus.Consensus.Consensus, flavour.Flavour.{Flavour, TheVariants.Ns}}
+use Rattle.consensus_terms.specs.declared.{flavour.Flavour.TheVariants.Microdesc, signature.SignatureLine.SignatureLine}
+use Rattle.period_terms.specs.declared.{answer.{Advance.Advance, Offer.Offer, SignIn.SignIn}, event.Event.Event}
+use Rattle.period_terms.specs.declared.event.{Event.TheVariants.{Offered, Advanced, SignedIn, Read}, Signing.Signing}
+use Rattle.period_terms.specs.declared.{signature.OfferedSignature.OfferedSignature, stage.Stage.TheVariants.Voting}
+use Rattle.period_terms.specs.declared.{stage.Stage.TheVariants.{Frozen, Computed, Signed, Ended}, state.State.State}
+use Rattle.period_terms.specs.{States.{Outcome, consensus_of, digest_of, with_signature}, Offers.offer}
+use Rattle.period_terms.specs.{Advances.{advance, own_line}, SignIns.{sign_in, line_of, with_line}, Steps.step}
 use Rattle.period_terms.specs.declared.answer.Advance.TheVariants as moments
-use Rattle.period_terms.specs.declared.event.Event.{Event}
-use Rattle.period_terms.specs.declared.event.Signing.{Signing}
-use Rattle.period_terms.specs.declared.event.Event.TheVariants.{Offered, Advanced, SignedIn, Read}
-use Rattle.period_terms.specs.declared.signature.OfferedSignature.{OfferedSignature}
-use Rattle.period_terms.specs.declared.stage.Stage.TheVariants.{Voting, Frozen, Computed, Signed, Ended}
-use Rattle.period_terms.specs.declared.state.State.{State}
-use Rattle.period_terms.specs.declared.answer.Offer.{Offer}
-use Rattle.period_terms.specs.declared.answer.SignIn.{SignIn}
 use Rattle.vote_terms.specs.Votes.{ReadVote}
-use Rattle.period_terms.specs.States.{Outcome, consensus_of, digest_of, with_signature}
-use Rattle.period_terms.specs.Offers.{offer}
-use Rattle.period_terms.specs.Advances.{advance, own_line}
-use Rattle.period_terms.specs.SignIns.{sign_in, line_of, with_line}
-use Rattle.period_terms.specs.Steps.{step}
 use Rattle.period_laws.specs.Worlds as w
-use Rattle.period_laws.specs.Worlds.{SignedDigest, signed_by}
-use Rattle.period_laws.specs.Worlds.{signs_both, signs_at, signs_in}
-use Rattle.period_laws.specs.Worlds.{is_among, may_come}
-use Rattle.period_laws.proofs.Members.{In, in_both, in_either, in_filter}
-use Rattle.period_laws.proofs.Rows.{Offering, Advancing, SigningIn, offering, advancing, signing_in, refused, had}
-use Rattle.period_laws.proofs.Rows.{kept, stays, freezes, computes, gives_up, passes_over, signs, publishes, misses}
-use Rattle.period_laws.proofs.Rows.{begins, refuses, keeps}
-use Rattle.period_laws.proofs.Digests.{among}
-use Rattle.period_laws.proofs.LaterPeriods.{later}
-use Rattle.period_laws.proofs.Soundness.{has_signed, Lined, Sound, SoundAt, lined_more, sound_more}
-use Rattle.period_laws.proofs.Soundness.{nothing_more, no_claim, goes_on, Keeps, quiet, computes_it, begins_it}
+use Rattle.period_laws.specs.Worlds.{SignedDigest, signed_by, signs_both, signs_at, signs_in, is_among, may_come}
+use Rattle.period_laws.proofs.{Members.{In, in_both, in_either, in_filter}, Rows.{Offering, Advancing, SigningIn}}
+use Rattle.period_laws.proofs.Rows.{offering, advancing, signing_in, refused, had, kept, stays, freezes, computes}
+use Rattle.period_laws.proofs.Rows.{gives_up, passes_over, signs, publishes, misses, begins, refuses, keeps}
+use Rattle.period_laws.proofs.{Digests.among, LaterPeriods.later, Soundness.{has_signed, Lined, Sound, SoundAt}}
+use Rattle.period_laws.proofs.Soundness.{lined_more, sound_more, nothing_more, no_claim, goes_on, Keeps, quiet}
+use Rattle.period_laws.proofs.Soundness.{computes_it, begins_it}
 
 -- both digests are signed
 pub signed_is_own : (own : Fingerprint) (v : ℕ) (c : Consensus) (x : SignedDigest) → In x (signs_both own v (Some c))

@@ -1,29 +1,19 @@
 -- What one event publishes, and what of the current documents it leaves.
-use Rattle.std.proofs.Common.{◌≡◌, ℕ, ◌≤◌, ◌⊎◌, nat_lt, Bool, true, false, cond, List}
-use Rattle.std.proofs.Common.{Some, refl, sym, ◌∙◌, subst, inl, inr, arith}
-use Rattle.std.proofs.lemmas.Bool.{false≢true, ltb-false}
+use Rattle.std.proofs.Common.{◌≡◌, ℕ, ◌≤◌, ◌⊎◌, nat_lt, Bool, true, false, cond, List, Some, refl, sym, ◌∙◌, subst, inl}
+use Rattle.std.proofs.{Common.{inr, arith}, lemmas.Bool.{false≢true, ltb-false}}
 use Rattle.vote_terms.specs.Votes.{ReadVote}
-use Rattle.consensus_terms.specs.declared.consensus.Consensus.{Consensus}
-use Rattle.consensus_terms.specs.declared.flavour.Flavour.{Flavour}
-use Rattle.consensus_terms.specs.declared.flavour.Flavour.TheVariants.{Ns, Microdesc}
-use Rattle.consensus_terms.specs.declared.signature.SignatureLine.{SignatureLine}
-use Rattle.period_terms.specs.declared.answer.Advance.{Advance}
-use Rattle.period_terms.specs.declared.answer.Advance.TheVariants as moments
-use Rattle.period_terms.specs.declared.answer.Offer.{Offer}
-use Rattle.period_terms.specs.declared.answer.SignIn.{SignIn}
-use Rattle.period_terms.specs.declared.event.Signing.{Signing}
-use Rattle.period_terms.specs.declared.signature.OfferedSignature.{OfferedSignature}
-use Rattle.period_terms.specs.declared.stage.Stage.{Stage}
+use Rattle.consensus_terms.specs.declared.{consensus.Consensus.Consensus, flavour.Flavour.{Flavour, TheVariants.Ns}}
+use Rattle.consensus_terms.specs.declared.{flavour.Flavour.TheVariants.Microdesc, signature.SignatureLine.SignatureLine}
+use Rattle.period_terms.specs.declared.{answer.{Advance.Advance, Offer.Offer, SignIn.SignIn}, event.Signing.Signing}
+use Rattle.period_terms.specs.declared.{signature.OfferedSignature.OfferedSignature, stage.Stage.Stage}
 use Rattle.period_terms.specs.declared.stage.Stage.TheVariants.{Voting, Frozen, Computed, Signed, Ended}
-use Rattle.period_terms.specs.declared.state.State.{State}
-use Rattle.period_terms.specs.States.{Outcome, unchanged_outcome, is_signed, signed_text}
-use Rattle.period_terms.specs.Advances.{advance, advance_at, with_consensus, publish, publish_these}
-use Rattle.period_terms.specs.SignIns.{line_of, with_line}
-use Rattle.period_terms.specs.Steps.{moment_changes}
-use Rattle.period_terms.specs.Readings.{current_of}
-use Rattle.period_laws.specs.Publications.{of_flavour, publishes_then}
-use Rattle.period_laws.proofs.Rows.{Offering, Advancing, SigningIn, refused, had, kept, stays, freezes, computes}
-use Rattle.period_laws.proofs.Rows.{gives_up, passes_over, signs, publishes, misses, begins, refuses, keeps}
+use Rattle.period_terms.specs.{declared.state.State.State, States.{Outcome, unchanged_outcome, is_signed, signed_text}}
+use Rattle.period_terms.specs.{Advances.{advance, advance_at, with_consensus, publish, publish_these}, SignIns.line_of}
+use Rattle.period_terms.specs.{SignIns.with_line, Steps.moment_changes, Readings.current_of}
+use Rattle.period_terms.specs.declared.answer.Advance.TheVariants as moments
+use Rattle.period_laws.{specs.Publications.{of_flavour, publishes_then}, proofs.Rows.{Offering, Advancing, SigningIn}}
+use Rattle.period_laws.proofs.Rows.{refused, had, kept, stays, freezes, computes, gives_up, passes_over, signs}
+use Rattle.period_laws.proofs.Rows.{publishes, misses, begins, refuses, keeps}
 
 -- what a moment of a signed state publishes of a flavour
 pub record Publishes (s : State) (flavour : Flavour) (text : List ℕ) (answer : Advance) : Type 0 where

@@ -1,37 +1,26 @@
 -- The rows of the tables: what may come of an event.
 use Rattle.std.proofs.Common.{◌≡◌, ℕ, ◌==◌, ◌||◌, Bool, true, false, not, nat_lt, nat_le, List, length, Option, Some}
-use Rattle.std.proofs.Common.{None, cond, refl, sym, ◌∙◌, subst, bytes_eq, ◌+◌}
-use Rattle.std.proofs.lemmas.Bool.{false≢true, eqb-true, false_from_ne_true}
-use Rattle.dir_values.specs.Rosters.{has_member}
-use Rattle.dir_values.proofs.Orders.{same_text}
-use Rattle.vote_terms.specs.Votes.{ReadVote, rank_of}
-use Rattle.vote_terms.specs.Held.{outranks}
-use Rattle.vote_terms.proofs.Orders.{above_trans, above_itself}
-use Rattle.consensus_terms.specs.declared.consensus.Consensus.{Consensus}
-use Rattle.consensus_terms.specs.declared.flavour.Flavour.TheVariants.{Ns, Microdesc}
+use Rattle.std.proofs.{Common.{None, cond, refl, sym, ◌∙◌, subst, bytes_eq, ◌+◌}, lemmas.Bool.{false≢true, eqb-true}}
+use Rattle.std.proofs.lemmas.Bool.{false_from_ne_true}
+use Rattle.dir_values.{specs.Rosters.has_member, proofs.Orders.same_text}
+use Rattle.vote_terms.{specs.{Votes.{ReadVote, rank_of}, Held.outranks}, proofs.Orders.{above_trans, above_itself}}
+use Rattle.consensus_terms.specs.declared.{consensus.Consensus.Consensus, flavour.Flavour.TheVariants.{Ns, Microdesc}}
 use Rattle.count_terms.specs.Counts.{over}
-use Rattle.period_terms.specs.declared.answer.Advance.{Advance}
-use Rattle.period_terms.specs.declared.answer.Advance.TheVariants as moments
-use Rattle.period_terms.specs.declared.answer.Offer.{Offer}
-use Rattle.period_terms.specs.declared.answer.Offer.TheVariants as offers
-use Rattle.period_terms.specs.declared.answer.SignIn.{SignIn}
-use Rattle.period_terms.specs.declared.answer.SignIn.TheVariants as sign_answers
-use Rattle.period_terms.specs.declared.event.Via.{Via}
-use Rattle.period_terms.specs.declared.event.Signing.{Signing}
-use Rattle.period_terms.specs.declared.event.Signing.TheVariants.{Given, SignerFails, VerifierFails, Refused}
-use Rattle.period_terms.specs.declared.signature.OfferedSignature.{OfferedSignature}
-use Rattle.period_terms.specs.declared.stage.Stage.{Stage}
+use Rattle.period_terms.specs.declared.{answer.{Advance.Advance, Offer.Offer, SignIn.SignIn}, event.Via.Via}
+use Rattle.period_terms.specs.declared.event.Signing.{Signing, TheVariants.{Given, SignerFails, VerifierFails, Refused}}
+use Rattle.period_terms.specs.declared.{signature.OfferedSignature.OfferedSignature, stage.Stage.Stage}
 use Rattle.period_terms.specs.declared.stage.Stage.TheVariants.{Voting, Frozen, Computed, Signed, Ended}
-use Rattle.period_terms.specs.declared.state.State.{State}
+use Rattle.period_terms.specs.{declared.state.State.State, Schedules.{cutoff_of, next_valid_after}, States.Outcome}
+use Rattle.period_terms.specs.States.{unchanged_outcome, is_voting, is_ended, vote_of, has_key, consensus_of, digest_of}
+use Rattle.period_terms.specs.{States.{lines_of, has_line, is_signed}, Offers.{offer, kept_vote, compared_vote}}
+use Rattle.period_terms.specs.{Offers.{is_late, with_vote, most_vote_changes}, Steps.{offer_changes, moment_changes}}
+use Rattle.period_terms.specs.{Steps.sign_in_changes, Histories.accepts}
+use Rattle.period_terms.specs.declared.answer.Advance.TheVariants as moments
+use Rattle.period_terms.specs.declared.answer.Offer.TheVariants as offers
+use Rattle.period_terms.specs.declared.answer.SignIn.TheVariants as sign_answers
 use Rattle.vote_schedule.specs.Moments as schedule_moments
-use Rattle.period_terms.specs.Schedules.{cutoff_of, next_valid_after}
-use Rattle.period_terms.specs.States.{Outcome, unchanged_outcome, is_voting, is_ended, vote_of, has_key, consensus_of}
-use Rattle.period_terms.specs.States.{digest_of, lines_of, has_line, is_signed}
-use Rattle.period_terms.specs.Offers.{offer, kept_vote, compared_vote, is_late, with_vote, most_vote_changes}
 use Rattle.period_terms.specs.Advances as advances
 use Rattle.period_terms.specs.SignIns as sign_ins
-use Rattle.period_terms.specs.Steps.{offer_changes, moment_changes, sign_in_changes}
-use Rattle.period_terms.specs.Histories.{accepts}
 
 -- ---- a vote
 

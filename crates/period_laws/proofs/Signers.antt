@@ -1,34 +1,20 @@
 -- What is told of a signature when it comes is told of it while it is held, by the key of its authority's held vote.
 use Rattle.std.proofs.Common.{◌≡◌, ℕ, ◌&&◌, Bool, true, false, not, List, [], ◌∷◌, ◌++◌, filter, Option, Some, None}
-use Rattle.std.proofs.Common.{refl, sym, ap, ◌∙◌, subst, ⊎_elim, bytes_eq}
-use Rattle.std.proofs.lemmas.Bool.{false≢true}
+use Rattle.std.proofs.{Common.{refl, sym, ap, ◌∙◌, subst, ⊎_elim, bytes_eq}, lemmas.Bool.false≢true}
 use Rattle.key_port.specs.Answers.{Relation, Rules}
-use Rattle.dir_values.specs.Digests.{same_identity}
-use Rattle.dir_values.specs.declared.digest.Fingerprint.{Fingerprint}
-use Rattle.dir_values.proofs.Orders.{same_text}
-use Rattle.vote_terms.specs.Votes.{ReadVote}
-use Rattle.vote_terms.proofs.Orders.{same_one}
-use Rattle.consensus_terms.specs.declared.consensus.Consensus.{Consensus}
-use Rattle.consensus_terms.specs.declared.flavour.Flavour.{Flavour}
-use Rattle.consensus_terms.specs.declared.flavour.Flavour.TheVariants.{Ns, Microdesc}
-use Rattle.consensus_terms.specs.declared.signature.SignatureLine.{SignatureLine}
-use Rattle.period_terms.specs.declared.answer.Advance.{Advance}
-use Rattle.period_terms.specs.declared.answer.Offer.{Offer}
-use Rattle.period_terms.specs.declared.answer.SignIn.{SignIn}
-use Rattle.period_terms.specs.declared.event.Signing.{Signing}
-use Rattle.period_terms.specs.declared.event.Signing.TheVariants.{Given}
-use Rattle.period_terms.specs.declared.signature.OfferedSignature.{OfferedSignature}
-use Rattle.period_terms.specs.declared.stage.Stage.{Stage}
-use Rattle.period_terms.specs.declared.stage.Stage.TheVariants.{Voting, Frozen, Computed, Signed, Ended}
-use Rattle.period_terms.specs.declared.state.State.{State}
-use Rattle.period_terms.specs.States.{Outcome, consensus_of, is_voting, vote_of, digest_of, with_signature}
-use Rattle.period_terms.specs.Offers.{with_vote}
-use Rattle.period_terms.specs.Advances.{own_line, MayGiveAt, MayGiveIf, MaySign}
-use Rattle.period_terms.specs.SignIns.{line_of, with_line}
-use Rattle.period_laws.proofs.Members.{In, in_either, in_filter, any_from, found}
-use Rattle.period_laws.proofs.Digests.{and_true}
-use Rattle.period_laws.proofs.Rows.{Offering, Advancing, SigningIn, refused, had, kept, stays, freezes, computes}
-use Rattle.period_laws.proofs.Rows.{gives_up, passes_over, signs, publishes, misses, begins, refuses, keeps}
+use Rattle.dir_values.{specs.{Digests.same_identity, declared.digest.Fingerprint.Fingerprint}, proofs.Orders.same_text}
+use Rattle.vote_terms.{specs.Votes.ReadVote, proofs.Orders.same_one}
+use Rattle.consensus_terms.specs.declared.{consensus.Consensus.Consensus, flavour.Flavour.{Flavour, TheVariants.Ns}}
+use Rattle.consensus_terms.specs.declared.{flavour.Flavour.TheVariants.Microdesc, signature.SignatureLine.SignatureLine}
+use Rattle.period_terms.specs.declared.{answer.{Advance.Advance, Offer.Offer, SignIn.SignIn}, event.Signing.Signing}
+use Rattle.period_terms.specs.declared.{event.Signing.TheVariants.Given, signature.OfferedSignature.OfferedSignature}
+use Rattle.period_terms.specs.declared.stage.Stage.{Stage, TheVariants.{Voting, Frozen, Computed, Signed, Ended}}
+use Rattle.period_terms.specs.{declared.state.State.State, States.{Outcome, consensus_of, is_voting, vote_of}}
+use Rattle.period_terms.specs.{States.{digest_of, with_signature}, Offers.with_vote, Advances.{own_line, MayGiveAt}}
+use Rattle.period_terms.specs.{Advances.{MayGiveIf, MaySign}, SignIns.{line_of, with_line}}
+use Rattle.period_laws.proofs.{Members.{In, in_either, in_filter, any_from, found}, Digests.and_true, Rows.Offering}
+use Rattle.period_laws.proofs.Rows.{Advancing, SigningIn, refused, had, kept, stays, freezes, computes, gives_up}
+use Rattle.period_laws.proofs.Rows.{passes_over, signs, publishes, misses, begins, refuses, keeps}
 
 -- whether a consensus may be computed at a stage
 abbrev pub is_set : Stage → Bool

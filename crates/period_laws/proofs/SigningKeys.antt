@@ -1,19 +1,13 @@
 -- The keys of those members who have a signature that is held.
 use Rattle.std.proofs.Common.{◌≡◌, ◌⊎◌, Bool, true, false, cond, List, [], ◌∷◌, Option, Some, None, refl, sym, subst}
-use Rattle.std.proofs.Common.{inl, inr, ⊎_elim}
-use Rattle.std.specs.Prelude.{All, AllPairs}
-use Rattle.std.proofs.lemmas.List.Elements.{All-cons, All-nil}
-use Rattle.dir_values.specs.declared.digest.Fingerprint.{Fingerprint}
-use Rattle.dir_values.specs.Digests.{same_identity}
+use Rattle.std.{proofs.{Common.{inl, inr, ⊎_elim}, lemmas.List.Elements.{All-cons, All-nil}}, specs.Prelude.All}
+use Rattle.std.specs.Prelude.{AllPairs}
+use Rattle.dir_values.specs.{declared.digest.Fingerprint.Fingerprint, Digests.same_identity}
 use Rattle.dir_values.proofs.Orders.{AllPairs-cons, AllPairs-head, AllPairs-tail, AllPairs-nil}
-use Rattle.vote_terms.specs.Votes.{ReadVote}
-use Rattle.vote_terms.specs.Held.{vote_of}
-use Rattle.vote_terms.proofs.Orders.{same_one}
+use Rattle.vote_terms.{specs.{Votes.ReadVote, Held.vote_of}, proofs.Orders.same_one}
 use Rattle.consensus_terms.specs.declared.signature.SignatureLine.{SignatureLine}
-use Rattle.detached_sigs.specs.declared.key.SignerKey.{SignerKey}
-use Rattle.detached_sigs.specs.Signers.{AreApart}
-use Rattle.period_terms.specs.States.{has_line}
-use Rattle.period_terms.specs.Keys.{signer_key}
+use Rattle.detached_sigs.specs.{declared.key.SignerKey.SignerKey, Signers.AreApart}
+use Rattle.period_terms.specs.{States.has_line, Keys.signer_key}
 use Rattle.period_laws.proofs.Members.{In, in_to, found}
 
 -- of each member of a list, in the list

@@ -1,27 +1,16 @@
 -- What holds of a member's state in a world.
-use Rattle.std.proofs.Common.{◌≡◌, ℕ, ◌<◌, ◌≤◌, ◌⊎◌, ◌&&◌, Bool, true, false, List, [], ◌∷◌, ◌++◌}
-use Rattle.std.proofs.Common.{Option, Some, None, refl, sym, ap, ◌∙◌, inl, inr, ⊎_elim}
-use Rattle.std.proofs.Common.{arith, ◌≢◌}
-use Rattle.std.proofs.lemmas.Bool.{false≢true}
+use Rattle.std.proofs.Common.{◌≡◌, ℕ, ◌<◌, ◌≤◌, ◌⊎◌, ◌&&◌, Bool, true, false, List, [], ◌∷◌, ◌++◌, Option, Some, None}
+use Rattle.std.proofs.{Common.{refl, sym, ap, ◌∙◌, inl, inr, ⊎_elim, arith, ◌≢◌}, lemmas.Bool.false≢true}
 use Rattle.dir_values.specs.declared.digest.Fingerprint.{Fingerprint}
-use Rattle.consensus_terms.specs.declared.consensus.Consensus.{Consensus}
-use Rattle.consensus_terms.specs.declared.flavour.Flavour.{Flavour}
-use Rattle.consensus_terms.specs.declared.flavour.Flavour.TheVariants.{Ns, Microdesc}
-use Rattle.consensus_terms.specs.declared.signature.SignatureLine.{SignatureLine}
-use Rattle.period_terms.specs.declared.answer.Advance.{Advance}
+use Rattle.consensus_terms.specs.declared.{consensus.Consensus.Consensus, flavour.Flavour.{Flavour, TheVariants.Ns}}
+use Rattle.consensus_terms.specs.declared.{flavour.Flavour.TheVariants.Microdesc, signature.SignatureLine.SignatureLine}
+use Rattle.period_terms.specs.declared.{answer.Advance.Advance, stage.Stage.{Stage, TheVariants.{Voting, Frozen}}}
+use Rattle.period_terms.specs.declared.{stage.Stage.TheVariants.{Computed, Signed, Ended}, state.State.State}
+use Rattle.period_terms.specs.{States.{Outcome, digest_of}, Steps.moment_changes}
 use Rattle.period_terms.specs.declared.answer.Advance.TheVariants as moments
-use Rattle.period_terms.specs.declared.stage.Stage.{Stage}
-use Rattle.period_terms.specs.declared.stage.Stage.TheVariants.{Voting, Frozen, Computed, Signed, Ended}
-use Rattle.period_terms.specs.declared.state.State.{State}
-use Rattle.period_terms.specs.States.{Outcome, digest_of}
-use Rattle.period_terms.specs.Steps.{moment_changes}
 use Rattle.period_laws.specs.Worlds as w
-use Rattle.period_laws.specs.Worlds.{SignedDigest, signed_by}
-use Rattle.period_laws.specs.Worlds.{signs_at}
-use Rattle.period_laws.specs.Worlds.{is_among}
-use Rattle.period_laws.proofs.Members.{In, in_either}
-use Rattle.period_laws.proofs.Rows.{signs}
-use Rattle.period_laws.proofs.Digests.{among_more}
+use Rattle.period_laws.{specs.Worlds.{SignedDigest, signed_by, signs_at, is_among}, proofs.Members.{In, in_either}}
+use Rattle.period_laws.proofs.{Rows.signs, Digests.among_more}
 use Rattle.vote_schedule.specs.Schedules.{Schedule, IsSchedule}
 
 -- whether a consensus may be computed at a stage

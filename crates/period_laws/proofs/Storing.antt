@@ -2,30 +2,18 @@
 use Rattle.std.proofs.Common.{◌≡◌, false, cond, List, [], ◌∷◌, ◌++◌, refl, sym, ap, ◌∙◌, subst}
 use Rattle.std.proofs.lemmas.Bool.{false≢true}
 use Rattle.vote_terms.specs.Votes.{ReadVote}
-use Rattle.consensus_terms.specs.declared.flavour.Flavour.{Flavour}
-use Rattle.consensus_terms.specs.declared.flavour.Flavour.TheVariants.{Ns, Microdesc}
+use Rattle.consensus_terms.specs.declared.flavour.Flavour.{Flavour, TheVariants.{Ns, Microdesc}}
 use Rattle.consensus_terms.specs.declared.signature.SignatureLine.{SignatureLine}
-use Rattle.period_terms.specs.declared.answer.Advance.{Advance}
+use Rattle.period_terms.specs.declared.{answer.{Advance.Advance, Offer.Offer, SignIn.SignIn}, change.Change.Change}
+use Rattle.period_terms.specs.declared.event.Event.{Event, TheVariants.{Offered, Advanced, SignedIn, Read}}
+use Rattle.period_terms.specs.declared.{event.Signing.Signing, signature.OfferedSignature.OfferedSignature}
+use Rattle.period_terms.specs.{declared.state.State.State, States.Outcome, Offers.offer, Advances.advance}
+use Rattle.period_terms.specs.{SignIns.{sign_in, line_of, with_line}, Steps.{step, moment_changes}, Histories.run}
 use Rattle.period_terms.specs.declared.answer.Advance.TheVariants as moments
-use Rattle.period_terms.specs.declared.answer.Offer.{Offer}
-use Rattle.period_terms.specs.declared.answer.SignIn.{SignIn}
-use Rattle.period_terms.specs.declared.change.Change.{Change}
-use Rattle.period_terms.specs.declared.event.Event.{Event}
-use Rattle.period_terms.specs.declared.event.Event.TheVariants.{Offered, Advanced, SignedIn, Read}
-use Rattle.period_terms.specs.declared.event.Signing.{Signing}
-use Rattle.period_terms.specs.declared.signature.OfferedSignature.{OfferedSignature}
-use Rattle.period_terms.specs.declared.state.State.{State}
-use Rattle.period_terms.specs.States.{Outcome}
-use Rattle.period_terms.specs.Offers.{offer}
-use Rattle.period_terms.specs.Advances.{advance}
-use Rattle.period_terms.specs.SignIns.{sign_in, line_of, with_line}
-use Rattle.period_terms.specs.Steps.{step, moment_changes}
-use Rattle.period_terms.specs.Histories.{run}
 use Rattle.period_laws.specs.ShortForms.{moment_form, vote_form, signature_form, begins_next, forms_after, forms_with}
-use Rattle.period_laws.specs.ShortForms.{FormsAreStored, BaseIsLastBegin}
-use Rattle.period_laws.proofs.Rows.{Offering, Advancing, SigningIn, offering, advancing, signing_in, refused, had}
-use Rattle.period_laws.proofs.Rows.{kept, stays, freezes, computes, gives_up, passes_over, signs, publishes, misses}
-use Rattle.period_laws.proofs.Rows.{begins, refuses, keeps}
+use Rattle.period_laws.{specs.ShortForms.{FormsAreStored, BaseIsLastBegin}, proofs.Rows.{Offering, Advancing}}
+use Rattle.period_laws.proofs.Rows.{SigningIn, offering, advancing, signing_in, refused, had, kept, stays, freezes}
+use Rattle.period_laws.proofs.Rows.{computes, gives_up, passes_over, signs, publishes, misses, begins, refuses, keeps}
 
 nil_end : (l : List Change) → l ++ [] ≡ l
 nil_end [] = refl

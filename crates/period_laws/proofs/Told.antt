@@ -1,33 +1,20 @@
 -- The stored changes tell the state.
-use Rattle.std.proofs.Common.{◌*◌, ◌≡◌, ℕ, ◌+◌, ◌&&◌, ◌||◌}
-use Rattle.std.proofs.Common.{List, [], ◌∷◌, ◌++◌, Some, None, refl}
-use Rattle.std.proofs.Common.{sym, ◌∙◌, subst, arith}
+use Rattle.std.proofs.Common.{◌*◌, ◌≡◌, ℕ, ◌+◌, ◌&&◌, ◌||◌, List, [], ◌∷◌, ◌++◌, Some, None, refl, sym, ◌∙◌, subst}
+use Rattle.std.proofs.Common.{arith}
 use Rattle.vote_terms.specs.Votes.{ReadVote}
 use Rattle.consensus_terms.specs.declared.flavour.Flavour.TheVariants.{Ns, Microdesc}
-use Rattle.period_terms.specs.declared.answer.Advance.{Advance}
-use Rattle.period_terms.specs.declared.answer.Offer.{Offer}
-use Rattle.period_terms.specs.declared.answer.SignIn.{SignIn}
+use Rattle.period_terms.specs.declared.{answer.{Advance.Advance, Offer.Offer, SignIn.SignIn}, event.Event.Event}
+use Rattle.period_terms.specs.declared.event.{Event.TheVariants.{Offered, Advanced, SignedIn, Read}, Signing.Signing}
+use Rattle.period_terms.specs.declared.{signature.OfferedSignature.OfferedSignature, stage.Stage.TheVariants.Frozen}
+use Rattle.period_terms.specs.declared.{stage.Stage.TheVariants.{Computed, Signed, Ended}, state.State.State}
+use Rattle.period_terms.specs.{States.{Outcome, consensus_of, is_signed, both_digests, change}, Offers.offer}
+use Rattle.period_terms.specs.{Advances.{advance, published_digests}, SignIns.sign_in, Steps.step, Histories.IsStart}
+use Rattle.period_terms.{specs.Histories.run, proofs.Telling.{TellsAt, to_parts, from_parts, plain}}
+use Rattle.period_terms.proofs.{TellingVotes.vote_tells, TellingSigners.{sign_tells, signature_tells}}
 use Rattle.period_terms.specs.declared.change.ChangeKind.TheVariants as kind
-use Rattle.period_terms.specs.declared.event.Event.{Event}
-use Rattle.period_terms.specs.declared.event.Signing.{Signing}
-use Rattle.period_terms.specs.declared.event.Event.TheVariants.{Offered, Advanced, SignedIn, Read}
-use Rattle.period_terms.specs.declared.signature.OfferedSignature.{OfferedSignature}
-use Rattle.period_terms.specs.declared.stage.Stage.TheVariants.{Frozen, Computed, Signed, Ended}
-use Rattle.period_terms.specs.declared.state.State.{State}
-use Rattle.period_terms.specs.States.{Outcome, consensus_of, is_signed}
-use Rattle.period_terms.specs.States.{both_digests, change}
-use Rattle.period_terms.specs.Offers.{offer}
-use Rattle.period_terms.specs.Advances.{advance, published_digests}
-use Rattle.period_terms.specs.SignIns.{sign_in}
-use Rattle.period_terms.specs.Steps.{step}
-use Rattle.period_terms.specs.Histories.{IsStart, run}
-use Rattle.period_laws.specs.KeptLaws.{StepsKeepIt, ChangesTell}
-use Rattle.period_terms.proofs.Telling.{TellsAt, to_parts, from_parts, plain}
-use Rattle.period_terms.proofs.TellingVotes.{vote_tells}
-use Rattle.period_terms.proofs.TellingSigners.{sign_tells, signature_tells}
-use Rattle.period_laws.proofs.Rows.{Offering, Advancing, SigningIn, offering, advancing, signing_in, refused}
-use Rattle.period_laws.proofs.Rows.{had, kept, stays, freezes, computes, gives_up, passes_over, signs, publishes}
-use Rattle.period_laws.proofs.Rows.{misses, begins, refuses, keeps}
+use Rattle.period_laws.{specs.KeptLaws.{StepsKeepIt, ChangesTell}, proofs.Rows.{Offering, Advancing, SigningIn}}
+use Rattle.period_laws.proofs.Rows.{offering, advancing, signing_in, refused, had, kept, stays, freezes, computes}
+use Rattle.period_laws.proofs.Rows.{gives_up, passes_over, signs, publishes, misses, begins, refuses, keeps}
 
 -- ---- the rows
 

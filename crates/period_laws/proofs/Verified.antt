@@ -1,28 +1,18 @@
 -- What was accepted was checked before it came, where all that came was.
-use Rattle.std.proofs.Common.{◌≡◌, Bool, true, false, cond, List, [], ◌∷◌, ◌++◌, refl, sym, subst, ⊎_elim, Option}
-use Rattle.std.proofs.Common.{Some, None, option_to_list, append-nil}
+use Rattle.std.proofs.Common.{◌≡◌, Bool, true, false, cond, List, [], ◌∷◌, ◌++◌, refl, sym, subst, ⊎_elim, Option, Some}
+use Rattle.std.proofs.Common.{None, option_to_list, append-nil}
 use Rattle.consensus_terms.specs.declared.consensus.Consensus.{Consensus}
-use Rattle.period_terms.specs.declared.answer.Answer.{Answer}
-use Rattle.period_terms.specs.declared.event.Signing.{Signing}
+use Rattle.period_terms.specs.declared.{answer.{Answer.Answer, Advance.Advance}, event.Signing.Signing}
 use Rattle.period_terms.specs.declared.event.Signing.TheVariants.{Given, SignerFails, VerifierFails, Refused}
-use Rattle.period_terms.specs.Advances.{MayGiveIf}
+use Rattle.period_terms.specs.declared.event.Event.{Event, TheVariants.{Offered, Advanced, SignedIn, Read}}
+use Rattle.period_terms.specs.{declared.{entry.Entry.Entry, state.State.State}, Advances.MayGiveIf, Offers.offer}
+use Rattle.period_terms.specs.{Steps.{step, changes}, Histories.{run, after, accepts, still_accepted, accepted_after}}
+use Rattle.period_terms.specs.Histories.{accepted_with, accepted}
 use Rattle.key_port.specs.Answers.{Relation, Rules}
-use Rattle.vote_terms.specs.Votes.{ReadVote}
-use Rattle.vote_terms.specs.Acceptable.{IsVerified}
-use Rattle.period_terms.specs.declared.answer.Advance.{Advance}
+use Rattle.vote_terms.specs.{Votes.ReadVote, Acceptable.IsVerified}
 use Rattle.period_terms.specs.declared.answer.Advance.TheVariants as moments
-use Rattle.period_terms.specs.declared.entry.Entry.{Entry}
-use Rattle.period_terms.specs.declared.event.Event.{Event}
-use Rattle.period_terms.specs.declared.event.Event.TheVariants.{Offered, Advanced, SignedIn, Read}
-use Rattle.period_terms.specs.declared.state.State.{State}
-use Rattle.period_terms.specs.Offers.{offer}
-use Rattle.period_terms.specs.Steps.{step, changes}
-use Rattle.period_terms.specs.Histories.{run, after, accepts, still_accepted, accepted_after, accepted_with, accepted}
-use Rattle.period_laws.specs.Periods.{Along}
-use Rattle.period_laws.specs.Checked.{IsChecked, AreChecked, HistoryRuns, AcceptedAreAcceptable, CheckedGoesOn}
-use Rattle.period_laws.specs.Checked.{anything, events_of}
-use Rattle.period_laws.proofs.Leading.{on}
-use Rattle.period_laws.proofs.Accepted.{are_wanted}
+use Rattle.period_laws.specs.{Periods.Along, Checked.{IsChecked, AreChecked, HistoryRuns, AcceptedAreAcceptable}}
+use Rattle.period_laws.{specs.Checked.{CheckedGoesOn, anything, events_of}, proofs.{Leading.on, Accepted.are_wanted}}
 use Rattle.period_laws.proofs.Members.{In, in_from, in_either}
 
 -- ---- histories

@@ -1,23 +1,16 @@
 -- What is surely kept, and what is surely computed.
 use Rattle.std.specs.Prelude.{◌≡◌, ◌<◌, ◌+◌, ℕ, true, false, length, Some, None}
 use Rattle.dir_values.specs.Rosters.{has_member}
-use Rattle.vote_terms.specs.Votes.{ReadVote, rank_of}
-use Rattle.vote_terms.specs.Held.{outranks}
+use Rattle.vote_terms.specs.{Votes.{ReadVote, rank_of}, Held.outranks}
 use Rattle.consensus_terms.specs.declared.consensus.Consensus.{Consensus}
 use Rattle.count_terms.specs.Counts.{over}
 use Rattle.period_terms.specs.declared.answer.Advance.TheVariants as moments
 use Rattle.period_terms.specs.declared.answer.Offer.TheVariants as offers
 use Rattle.period_terms.specs.declared.answer.SignIn.TheVariants as signs
-use Rattle.period_terms.specs.declared.event.Signing.{Signing}
-use Rattle.period_terms.specs.declared.event.Via.{Via}
-use Rattle.period_terms.specs.declared.signature.OfferedSignature.{OfferedSignature}
-use Rattle.period_terms.specs.declared.stage.Stage.TheVariants.{Voting, Frozen}
-use Rattle.period_terms.specs.declared.state.State.{State}
-use Rattle.period_terms.specs.Schedules.{cutoff_of}
-use Rattle.period_terms.specs.States.{vote_of, has_key, has_line, lines_of, digest_of, is_ended}
-use Rattle.period_terms.specs.Offers.{offer, most_vote_changes}
-use Rattle.period_terms.specs.Advances.{advance}
-use Rattle.period_terms.specs.SignIns.{sign_in}
+use Rattle.period_terms.specs.declared.{event.{Signing.Signing, Via.Via}, signature.OfferedSignature.OfferedSignature}
+use Rattle.period_terms.specs.declared.{stage.Stage.TheVariants.{Voting, Frozen}, state.State.State}
+use Rattle.period_terms.specs.{Schedules.cutoff_of, States.{vote_of, has_key, has_line, lines_of, digest_of, is_ended}}
+use Rattle.period_terms.specs.{Offers.{offer, most_vote_changes}, Advances.advance, SignIns.sign_in}
 
 -- A vote of a member of the roster, for this period, comes while votes are taken and before its cutoff, and the
 -- period has room.

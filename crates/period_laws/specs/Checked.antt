@@ -3,21 +3,14 @@ use Rattle.std.specs.Prelude.{◌≡◌, true, List, [], ◌∷◌, ◌++◌, ma
 use Rattle.sha1.specs.Sha1.{sha1}
 use Rattle.key_port.specs.Answers.{Relation, Rules}
 use Rattle.key_port.specs.declared.verifier.KeyKind.TheVariants as key_kind
-use Rattle.vote_terms.specs.Votes.{ReadVote}
-use Rattle.vote_terms.specs.Acceptable.{IsVerified, IsAcceptable}
-use Rattle.consensus_terms.specs.declared.consensus.Consensus.{Consensus}
-use Rattle.consensus_terms.specs.declared.flavour.Flavour.{Flavour}
+use Rattle.vote_terms.specs.{Votes.ReadVote, Acceptable.{IsVerified, IsAcceptable}}
+use Rattle.consensus_terms.specs.declared.{consensus.Consensus.Consensus, flavour.Flavour.Flavour}
 use Rattle.detached_sigs.specs.Signers.{CountsSigners}
-use Rattle.period_terms.specs.declared.entry.Entry.{Entry}
-use Rattle.period_terms.specs.declared.event.Event.{Event}
-use Rattle.period_terms.specs.declared.event.Event.TheVariants.{Offered, Advanced, SignedIn, Read}
-use Rattle.period_terms.specs.declared.signature.OfferedSignature.{OfferedSignature}
-use Rattle.period_terms.specs.declared.state.State.{State}
-use Rattle.period_terms.specs.Advances.{MayGiveAt}
-use Rattle.period_terms.specs.States.{lines_of, digest_of, signers}
-use Rattle.period_terms.specs.Histories.{IsStart, IsHistory, run, after, entry_if, accepted}
-use Rattle.period_terms.specs.Steps.{step}
-use Rattle.period_terms.specs.Keys.{signer_key}
+use Rattle.period_terms.specs.declared.{entry.Entry.Entry, event.Event.{Event, TheVariants.{Offered, Advanced}}}
+use Rattle.period_terms.specs.declared.event.Event.TheVariants.{SignedIn, Read}
+use Rattle.period_terms.specs.declared.{signature.OfferedSignature.OfferedSignature, state.State.State}
+use Rattle.period_terms.specs.{Advances.MayGiveAt, States.{lines_of, digest_of, signers}, Histories.IsStart}
+use Rattle.period_terms.specs.{Histories.{IsHistory, run, after, entry_if, accepted}, Steps.step, Keys.signer_key}
 use Rattle.period_laws.specs.Periods.{Along}
 
 -- ---- what was checked

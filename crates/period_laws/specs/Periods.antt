@@ -3,28 +3,18 @@ use Rattle.std.specs.Prelude.{◌≡◌, ℕ, ◌+◌, ◌≤◌, ◌||◌, Bool
 use Rattle.std.specs.Prelude.{if◌then◌else◌, ◌++◌, option_to_list, is_some, None}
 use Rattle.key_port.specs.Answers.{Relation, Rules}
 use Rattle.key_port.specs.declared.verifier.KeyKind.TheVariants as key_kind
-use Rattle.vote_terms.specs.Votes.{ReadVote}
-use Rattle.vote_terms.specs.Held.{held, outranks, SameMembers, RanksApart}
-use Rattle.vote_terms.specs.Acceptable.{IsWanted}
-use Rattle.consensus_terms.specs.declared.consensus.Consensus.{Consensus}
-use Rattle.consensus_terms.specs.declared.flavour.Flavour.{Flavour}
-use Rattle.consensus_terms.specs.declared.flavour.Flavour.TheVariants.{Ns, Microdesc}
-use Rattle.consensus_terms.specs.declared.signature.SignatureLine.{SignatureLine}
-use Rattle.consensus_terms.specs.Texts.{unsigned}
-use Rattle.consensus_terms.specs.Signed.{signed}
+use Rattle.vote_terms.specs.{Votes.ReadVote, Held.{held, outranks, SameMembers, RanksApart}, Acceptable.IsWanted}
+use Rattle.consensus_terms.specs.declared.{consensus.Consensus.Consensus, flavour.Flavour.{Flavour, TheVariants.Ns}}
+use Rattle.consensus_terms.specs.declared.{flavour.Flavour.TheVariants.Microdesc, signature.SignatureLine.SignatureLine}
+use Rattle.consensus_terms.specs.{Texts.unsigned, Signed.signed}
 use Rattle.compute_terms.specs.Consensuses.{consensus}
 use Rattle.period_terms.specs.declared.answer.Advance.TheVariants as moments
-use Rattle.period_terms.specs.declared.entry.Entry.{Entry}
-use Rattle.period_terms.specs.declared.event.Event.{Event}
-use Rattle.period_terms.specs.declared.event.Event.TheVariants.{Offered, Advanced, SignedIn, Read}
-use Rattle.period_terms.specs.declared.event.Signing.{Signing}
-use Rattle.period_terms.specs.declared.stage.Stage.{Stage}
+use Rattle.period_terms.specs.declared.{entry.Entry.Entry, event.Event.{Event, TheVariants.{Offered, Advanced}}}
+use Rattle.period_terms.specs.declared.{event.{Event.TheVariants.{SignedIn, Read}, Signing.Signing}, stage.Stage.Stage}
 use Rattle.period_terms.specs.declared.stage.Stage.TheVariants.{Voting, Frozen, Computed, Signed, Ended}
-use Rattle.period_terms.specs.declared.state.State.{State}
-use Rattle.period_terms.specs.States.{lines_of, digest_of, is_signed}
-use Rattle.period_terms.specs.Advances.{advance, MayGiveAt, given_told}
-use Rattle.period_terms.specs.Steps.{step}
-use Rattle.period_terms.specs.Histories.{IsStart, IsHistory, run, after, entry_if, history, accepted}
+use Rattle.period_terms.specs.{declared.state.State.State, States.{lines_of, digest_of, is_signed}, Advances.advance}
+use Rattle.period_terms.specs.{Advances.{MayGiveAt, given_told}, Steps.step, Histories.{IsStart, IsHistory, run, after}}
+use Rattle.period_terms.specs.Histories.{entry_if, history, accepted}
 
 -- ---- votes and texts
 
@@ -61,6 +51,7 @@ pub record GoesOn (start : State) (story : List Entry) (event : Event) (entries 
   pub is : IsHistory start (story ++ entries)
   pub leads : after start (story ++ entries) ≡ (step (after start story) event).after
 
+-- Each history goes on by each event.
 abbrev pub HistoryGoesOn : Type 0
 HistoryGoesOn = (start : State) (story : List Entry) (event : Event) → IsHistory start story
     → GoesOn start story event (option_to_list (entry_if event (step (after start story) event).answer))
@@ -100,6 +91,7 @@ pub record HoldTheSame (one other : State) : Type 0 where
   pub texts : (c d : Consensus) → one.computed ≡ Some c → other.computed ≡ Some d → (flavour : Flavour)
       → unsigned flavour c ≡ unsigned flavour d
 
+-- Two states that were given alike events hold the same, where no two accepted votes of an authority share a rank.
 abbrev pub PeriodStatesAgree : Type 0
 PeriodStatesAgree = (one other : State) (events others : List Event) → AreAlike one other events others
     → RanksApart (accepted one events)

@@ -1,32 +1,20 @@
 -- How a document came to stand as the current one.
 use Rattle.std.specs.Prelude.{◌≡◌, ℕ, ◌≤◌, Bool, true, false, List, [], ◌∷◌, ◌++◌, map, length, Contains, Some}
 use Rattle.key_port.specs.Answers.{Rules}
-use Rattle.vote_terms.specs.Votes.{ReadVote}
-use Rattle.vote_terms.specs.Held.{held}
-use Rattle.vote_terms.specs.Acceptable.{IsAcceptable}
-use Rattle.consensus_terms.specs.declared.consensus.Consensus.{Consensus}
-use Rattle.consensus_terms.specs.declared.flavour.Flavour.{Flavour}
-use Rattle.consensus_terms.specs.declared.flavour.Flavour.TheVariants.{Ns, Microdesc}
-use Rattle.consensus_terms.specs.declared.signature.SignatureLine.{SignatureLine}
-use Rattle.consensus_terms.specs.Texts.{unsigned}
-use Rattle.consensus_terms.specs.Signed.{signed}
+use Rattle.vote_terms.specs.{Votes.ReadVote, Held.held, Acceptable.IsAcceptable}
+use Rattle.consensus_terms.specs.declared.{consensus.Consensus.Consensus, flavour.Flavour.{Flavour, TheVariants.Ns}}
+use Rattle.consensus_terms.specs.declared.{flavour.Flavour.TheVariants.Microdesc, signature.SignatureLine.SignatureLine}
+use Rattle.consensus_terms.specs.{Texts.unsigned, Signed.signed}
 use Rattle.compute_terms.specs.Consensuses.{consensus}
 use Rattle.count_terms.specs.Counts.{over}
 use Rattle.detached_sigs.specs.Signers.{CountsSigners}
-use Rattle.period_terms.specs.declared.answer.Advance.{Advance}
+use Rattle.period_terms.specs.declared.{answer.{Advance.Advance, Answer.Answer}, entry.Entry.Entry}
+use Rattle.period_terms.specs.declared.{event.{Event.TheVariants.Advanced, Signing.Signing}, state.State.State}
+use Rattle.period_terms.specs.{Readings.current_of, States.{lines_of, digest_of, signers}, Histories.{IsStart, after}}
+use Rattle.period_terms.specs.{Histories.accepted, Keys.signer_key}
 use Rattle.period_terms.specs.declared.answer.Advance.TheVariants as moments
-use Rattle.period_terms.specs.declared.answer.Answer.{Answer}
 use Rattle.period_terms.specs.declared.answer.Answer.TheVariants as answers
-use Rattle.period_terms.specs.declared.entry.Entry.{Entry}
-use Rattle.period_terms.specs.declared.event.Event.TheVariants.{Advanced}
-use Rattle.period_terms.specs.declared.event.Signing.{Signing}
-use Rattle.period_terms.specs.declared.state.State.{State}
-use Rattle.period_terms.specs.Readings.{current_of}
-use Rattle.period_terms.specs.States.{lines_of, digest_of, signers}
-use Rattle.period_terms.specs.Histories.{IsStart, after, accepted}
-use Rattle.period_terms.specs.Keys.{signer_key}
-use Rattle.period_laws.specs.Periods.{IsAccepted}
-use Rattle.period_laws.specs.Checked.{IsCheckedHistory, events_of}
+use Rattle.period_laws.specs.{Periods.IsAccepted, Checked.{IsCheckedHistory, events_of}}
 
 -- which of two is a flavour's
 abbrev pub of_flavour : Flavour → Bool → Bool → Bool

@@ -2,24 +2,16 @@
 use Rattle.std.specs.Prelude.{◌≡◌, ℕ, Bool, true, false, List, [], ◌∷◌, ◌++◌, Option, Some, None, if◌then◌else◌}
 use Rattle.vote_terms.specs.Votes.{ReadVote, rank_of}
 use Rattle.consensus_terms.specs.declared.consensus.Consensus.{Consensus}
-use Rattle.period_terms.specs.declared.answer.Advance.{Advance}
+use Rattle.period_terms.specs.declared.answer.{Advance.Advance, Answer.{Answer, TheVariants.{Vote, Moment, Signature}}}
+use Rattle.period_terms.specs.declared.answer.{Answer.TheVariants.Reading, Offer.Offer, SignIn.SignIn}
+use Rattle.period_terms.specs.declared.{change.Change.Change, event.Event.{Event, TheVariants.{Offered, Advanced}}}
+use Rattle.period_terms.specs.declared.event.Event.TheVariants.{SignedIn, Read}
+use Rattle.period_terms.specs.declared.{signature.OfferedSignature.OfferedSignature, state.State.State}
+use Rattle.period_terms.specs.{States.{consensus_of, both_digests, change}, Offers.offer, Advances.advance}
+use Rattle.period_terms.specs.{Advances.published_digests, SignIns.sign_in, Steps.{step, offer_changes}}
+use Rattle.period_terms.specs.{Steps.sign_in_changes, Histories.{IsStart, run}}
 use Rattle.period_terms.specs.declared.answer.Advance.TheVariants as moments
-use Rattle.period_terms.specs.declared.answer.Answer.{Answer}
-use Rattle.period_terms.specs.declared.answer.Answer.TheVariants.{Vote, Moment, Signature, Reading}
-use Rattle.period_terms.specs.declared.answer.Offer.{Offer}
-use Rattle.period_terms.specs.declared.answer.SignIn.{SignIn}
-use Rattle.period_terms.specs.declared.change.Change.{Change}
 use Rattle.period_terms.specs.declared.change.ChangeKind.TheVariants as kind
-use Rattle.period_terms.specs.declared.event.Event.{Event}
-use Rattle.period_terms.specs.declared.event.Event.TheVariants.{Offered, Advanced, SignedIn, Read}
-use Rattle.period_terms.specs.declared.signature.OfferedSignature.{OfferedSignature}
-use Rattle.period_terms.specs.declared.state.State.{State}
-use Rattle.period_terms.specs.States.{consensus_of, both_digests, change}
-use Rattle.period_terms.specs.Offers.{offer}
-use Rattle.period_terms.specs.Advances.{advance, published_digests}
-use Rattle.period_terms.specs.SignIns.{sign_in}
-use Rattle.period_terms.specs.Steps.{step, offer_changes, sign_in_changes}
-use Rattle.period_terms.specs.Histories.{IsStart, run}
 
 -- digests of what is computed, where something is
 abbrev pub digests_by : (Consensus → List ℕ) → Option Consensus → List ℕ

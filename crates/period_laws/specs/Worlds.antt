@@ -1,25 +1,14 @@
 -- Authorities that exchange what they will, and what they come to publish (dir-spec, "Exchanging detached signatures").
 use Rattle.std.specs.Prelude.{◌≡◌, ◌≢◌, ◌==◌, ℕ, Bool, true, false, not, ◌&&◌, List, [], ◌∷◌, ◌++◌, Contains, Option}
-use Rattle.std.specs.Prelude.{Some, None, is_some, if◌then◌else◌}
-use Rattle.std.specs.List.{list_any}
-use Rattle.std.specs.Str.{bytes_eq}
-use Rattle.dir_values.specs.declared.digest.Fingerprint.{Fingerprint}
-use Rattle.dir_values.specs.Digests.{same_identity}
-use Rattle.dir_values.specs.Rosters.{has_member}
-use Rattle.consensus_terms.specs.declared.consensus.Consensus.{Consensus}
-use Rattle.consensus_terms.specs.declared.flavour.Flavour.{Flavour}
-use Rattle.consensus_terms.specs.declared.flavour.Flavour.TheVariants.{Ns, Microdesc}
-use Rattle.consensus_terms.specs.Texts.{unsigned}
-use Rattle.period_terms.specs.declared.answer.Answer.{Answer}
+use Rattle.std.specs.{Prelude.{Some, None, is_some, if◌then◌else◌}, List.list_any, Str.bytes_eq}
+use Rattle.dir_values.specs.{declared.digest.Fingerprint.Fingerprint, Digests.same_identity, Rosters.has_member}
+use Rattle.consensus_terms.specs.declared.{consensus.Consensus.Consensus, flavour.Flavour.{Flavour, TheVariants.Ns}}
+use Rattle.consensus_terms.specs.{declared.flavour.Flavour.TheVariants.Microdesc, Texts.unsigned}
+use Rattle.period_terms.specs.declared.{answer.{Answer.Answer, Advance.Advance}, event.Event.Event}
+use Rattle.period_terms.specs.declared.{event.Event.TheVariants.{Offered, Advanced, SignedIn, Read}, state.State.State}
+use Rattle.period_terms.specs.{States.{Outcome, text_digest, digest_of}, Steps.step, Histories.IsStart}
 use Rattle.period_terms.specs.declared.answer.Answer.TheVariants as answers
-use Rattle.period_terms.specs.declared.answer.Advance.{Advance}
 use Rattle.period_terms.specs.declared.answer.Advance.TheVariants as moments
-use Rattle.period_terms.specs.declared.event.Event.{Event}
-use Rattle.period_terms.specs.declared.event.Event.TheVariants.{Offered, Advanced, SignedIn, Read}
-use Rattle.period_terms.specs.declared.state.State.{State}
-use Rattle.period_terms.specs.States.{Outcome, text_digest, digest_of}
-use Rattle.period_terms.specs.Steps.{step}
-use Rattle.period_terms.specs.Histories.{IsStart}
 
 -- that an authority signed this digest in a flavour, for the period that begins then
 pub record SignedDigest : Type 0 where

@@ -1,5 +1,8 @@
 // What an authority holds and publishes after whatever came.
-ghost use Rattle.period_laws.specs.Periods.{HeldAreHeld, AcceptedAreWanted, ComputedOfAccepted, HistoryLeads, FrontCounts, RanksAreOne, PeriodStatesAgree, PublishedIsSigned, SignedIsPublished, LinesAreAccepted, GivenIsTold, HistoryIsOne, HistoryGoesOn, FrontOfHistory, TextsStand};
+ghost use Rattle.period_laws.specs.Periods.{HeldAreHeld, AcceptedAreWanted, ComputedOfAccepted, HistoryLeads};
+ghost use Rattle.period_laws.specs.Periods.{FrontCounts, RanksAreOne, PeriodStatesAgree, PublishedIsSigned};
+ghost use Rattle.period_laws.specs.Periods.{SignedIsPublished, LinesAreAccepted, GivenIsTold, HistoryIsOne};
+ghost use Rattle.period_laws.specs.Periods.{HistoryGoesOn, FrontOfHistory, TextsStand};
 
 /// The held votes are those that are held of the accepted votes of the period.
 pub fn held_are_held()

@@ -1,13 +1,10 @@
 -- The first passes, dealt one by one.
-use Rattle.std.proofs.Common.{◌≡◌, ◌≢◌, ℕ, zero, suc, ◌+◌, List, [], ◌∷◌, ◌++◌, length, Some, None}
-use Rattle.std.proofs.Common.{refl, sym, ap, ◌∙◌, subst, arith, length-append}
-use Rattle.std.specs.Prelude.{slice_get}
+use Rattle.std.proofs.Common.{◌≡◌, ◌≢◌, ℕ, zero, suc, ◌+◌, List, [], ◌∷◌, ◌++◌, length, Some, None, refl, sym, ap, ◌∙◌}
+use Rattle.std.{proofs.Common.{subst, arith, length-append}, specs.Prelude.slice_get}
 use mathlib.Core.Logic.{dite}
 use native.Mathlib.Decide.{ℕ_discrete}
 use Rattle.atomic_table.specs.Table.{Me}
-use Rattle.period_lock.specs.declared.rule.View.{View}
-use Rattle.period_lock.specs.declared.rule.Part.{Part}
-use Rattle.period_lock.specs.Turns.{Lock, Knowledge, AreDealt, newcomer}
+use Rattle.period_lock.specs.{declared.rule.{View.View, Part.Part}, Turns.{Lock, Knowledge, AreDealt, newcomer}}
 use Rattle.period_lock.specs.Kept.{IsFree, fresh_part, fresh_parts, gathered_view, without_first, first_of}
 
 module _ {A : Type 0} where

@@ -1,27 +1,20 @@
 -- What is left when one seat has the parts of all passes.
-use Rattle.std.proofs.Common.{◌≡◌, ◌≢◌, ℕ, ◌<◌, ◌≤◌, suc, List, [], ◌∷◌, ◌++◌, length, map, Some}
-use Rattle.std.proofs.Common.{Option, false}
-use Rattle.std.proofs.Common.{refl, sym, ap, ◌∙◌, subst, ⊎_elim, arith, eq-eqb, ne_eqb}
-use Rattle.std.specs.Prelude.{All, IsPermutation}
+use Rattle.std.proofs.Common.{◌≡◌, ◌≢◌, ℕ, ◌<◌, ◌≤◌, suc, List, [], ◌∷◌, ◌++◌, length, map, Some, Option, false, refl}
+use Rattle.std.proofs.{Common.{sym, ap, ◌∙◌, subst, ⊎_elim, arith, eq-eqb, ne_eqb}, lemmas.List.append-nil}
+use Rattle.std.proofs.lemmas.List.{length-map, Elements.{All-cons, All-nil}, Sorted.IsPermutation-refl}
+use Rattle.std.proofs.lemmas.List.Sorted.{IsPermutation-trans, IsPermutation-cons, IsPermutation-append_right}
+use Rattle.std.{proofs.lemmas.List.Sorted.IsPermutation-middle, specs.Prelude.{All, IsPermutation}}
 use Rattle.std.specs.List.{AllByRecursion, flat_map}
-use Rattle.std.proofs.lemmas.List.{append-nil, length-map}
-use Rattle.std.proofs.lemmas.List.Elements.{All-cons, All-nil}
-use Rattle.std.proofs.lemmas.List.Sorted.{IsPermutation-refl, IsPermutation-trans}
-use Rattle.std.proofs.lemmas.List.Sorted.{IsPermutation-cons, IsPermutation-append_right, IsPermutation-middle}
 use mathlib.Core.Option.{some, some-injective}
 use mathlib.Core.List.{IsPrefix}
 use mathlib.Core.Logic.{dite}
 use native.Mathlib.Decide.{ℕ_discrete}
 use lib.ListN.{get_elem?}
 use Rattle.atomic_table.specs.Table.{State, Seen, Final}
-use Rattle.period_lock.specs.declared.rule.View.{View}
-use Rattle.period_lock.specs.declared.rule.Part.{Part}
-use Rattle.period_lock.specs.Turns.{Lock, Knowledge, EndsIn, entries_by}
+use Rattle.period_lock.specs.{declared.rule.{View.View, Part.Part}, Turns.{Lock, Knowledge, EndsIn, entries_by}}
 use Rattle.period_lock.specs.Kept.{IsPartOf, Kept, IsHome, IsOut, gathered_view, parts_of, parts_from, part_of, times}
-use Rattle.period_lock.proofs.Sums.{two_at_most_sum, sum_at_one}
-use Rattle.period_lock.proofs.Entries.{one_if_same, one_if_apart, count_of, count_cons}
-use Rattle.period_lock.proofs.Views.{not_both}
-use Rattle.period_lock.proofs.Meeting.{parts_shift}
+use Rattle.period_lock.proofs.{Sums.{two_at_most_sum, sum_at_one}, Entries.{one_if_same, one_if_apart, count_of}}
+use Rattle.period_lock.proofs.{Entries.count_cons, Views.not_both, Meeting.parts_shift}
 
 module _ {X : Type 0} where
   -- the entries of a list that have the numbers of these parts

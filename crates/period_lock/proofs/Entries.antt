@@ -1,18 +1,14 @@
 -- The entries of each pass in a list that grows.
 use Rattle.std.proofs.Common.{◌≡◌, ◌≢◌, ℕ, ◌+◌, ◌<◌, List, [], ◌∷◌, ◌++◌, length, Some, None, Option, refl, sym, ap}
-use Rattle.std.proofs.Common.{◌∙◌, append_assoc, eqb, ne_eqb, eq-eqb, arith}
-use Rattle.std.specs.List.{count_by, AllByRecursion}
+use Rattle.std.proofs.{Common.{◌∙◌, append_assoc, eqb, ne_eqb, eq-eqb, arith}, lemmas.List.append-nil}
+use Rattle.std.{proofs.lemmas.List.{Elements.filter-append, Sums.sum_by-cons}, specs.List.{count_by, AllByRecursion}}
 use Rattle.std.specs.Prelude.{option_to_list}
-use Rattle.std.proofs.lemmas.List.{append-nil}
-use Rattle.std.proofs.lemmas.List.Elements.{filter-append}
-use Rattle.std.proofs.lemmas.List.Sums.{sum_by-cons}
 use mathlib.Core.Bool.{cond}
 use mathlib.Core.List.{IsPrefix}
 use mathlib.Core.Logic.{dite}
 use native.Mathlib.Decide.{ℕ_discrete}
-use Rattle.period_lock.specs.declared.rule.Part.{Part}
-use Rattle.period_lock.specs.Turns.{entries, entries_by, entry_by}
-use Rattle.period_lock.specs.Kept.{IsPartOf, grown_part}
+use Rattle.period_lock.specs.{declared.rule.Part.Part, Turns.{entries, entries_by, entry_by}, Kept.IsPartOf}
+use Rattle.period_lock.specs.Kept.{grown_part}
 
 -- 1 where the numbers are the same
 abbrev pub one_if : ℕ → ℕ → ℕ

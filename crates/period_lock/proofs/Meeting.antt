@@ -1,14 +1,9 @@
 -- A seat that gets the parts of others, one pass after the other.
-use Rattle.std.proofs.Common.{◌≡◌, List, [], ◌∷◌, ◌++◌, Some, map, false}
-use Rattle.std.proofs.Common.{sym, ap, ◌∙◌, append_assoc}
-use Rattle.std.proofs.lemmas.List.{map-append}
-use Rattle.std.specs.Prelude.{All}
-use Rattle.std.proofs.lemmas.List.Elements.{All-pop}
+use Rattle.std.proofs.Common.{◌≡◌, List, [], ◌∷◌, ◌++◌, Some, map, false, sym, ap, ◌∙◌, append_assoc}
+use Rattle.std.{proofs.lemmas.List.{map-append, Elements.All-pop}, specs.Prelude.All}
 use Rattle.atomic_table.specs.Table.{Me}
-use Rattle.period_lock.specs.declared.rule.View.{View}
-use Rattle.period_lock.specs.declared.rule.Part.{Part}
-use Rattle.period_lock.specs.Turns.{Knowledge}
-use Rattle.period_lock.specs.Kept.{IsFree, IsIdle, gathered_view, joined_view, part_of}
+use Rattle.period_lock.specs.{declared.rule.{View.View, Part.Part}, Turns.Knowledge, Kept.{IsFree, IsIdle}}
+use Rattle.period_lock.specs.Kept.{gathered_view, joined_view, part_of}
 
 module _ {S X : Type 0} where
   -- what is said of each pass is said of the last one and of the others

@@ -1,23 +1,17 @@
 -- A new table keeps one list, and so do a seat that gives a part to a new seat and a seat that gets the parts of
 -- another.
-use Rattle.std.proofs.Common.{◌≡◌, ◌≢◌, ℕ, ◌+◌, ◌-◌, ◌<◌, ◌≤◌, zero, suc, List, [], ◌∷◌, ◌++◌, length, set, Some}
-use Rattle.std.proofs.Common.{None, false}
-use Rattle.std.proofs.Common.{refl, sym, ap, ◌∙◌, subst, inl, arith, length-append}
-use Rattle.std.specs.List.{AllByRecursion}
-use Rattle.std.proofs.lemmas.List.Sums.{sum_by-cons, sum_by-append, sum_by_push}
+use Rattle.std.proofs.Common.{◌≡◌, ◌≢◌, ℕ, ◌+◌, ◌-◌, ◌<◌, ◌≤◌, zero, suc, List, [], ◌∷◌, ◌++◌, length, set, Some, None}
+use Rattle.std.proofs.Common.{false, refl, sym, ap, ◌∙◌, subst, inl, arith, length-append}
+use Rattle.std.{proofs.lemmas.List.Sums.{sum_by-cons, sum_by-append, sum_by_push}, specs.List.AllByRecursion}
 use mathlib.Core.Option.{some}
 use mathlib.Core.Logic.{dite}
 use native.Mathlib.Decide.{ℕ_discrete}
 use lib.ListN.{get_elem?}
-use Rattle.atomic_table.specs.Table.{opening, Splits, Joins}
-use Rattle.atomic_table.proofs.Lists.{set_else}
-use Rattle.period_lock.specs.declared.rule.View.{View}
-use Rattle.period_lock.specs.declared.rule.Part.{Part}
-use Rattle.period_lock.specs.Kept.{IsPartOf, Fits, Kept, fresh_part, fresh_parts, first_view, gathered_view, seated_view, spent}
-use Rattle.period_lock.specs.Kept.{joined_view, without_first, first_of, parts_of, times}
-use Rattle.period_lock.proofs.Sums.{sum_set}
-use Rattle.period_lock.proofs.Entries.{one_if, one_if_same, one_if_apart, count_of, count_cons}
-use Rattle.period_lock.proofs.TurnWords.{some_is}
+use Rattle.atomic_table.{specs.Table.{opening, Splits, Joins}, proofs.Lists.set_else}
+use Rattle.period_lock.specs.{declared.rule.{View.View, Part.Part}, Kept.{IsPartOf, Fits, Kept, fresh_part}}
+use Rattle.period_lock.specs.Kept.{fresh_parts, first_view, gathered_view, seated_view, spent, joined_view}
+use Rattle.period_lock.{specs.Kept.{without_first, first_of, parts_of, times}, proofs.{Sums.sum_set, Entries.one_if}}
+use Rattle.period_lock.proofs.{Entries.{one_if_same, one_if_apart, count_of, count_cons}, TurnWords.some_is}
 use Rattle.period_lock.proofs.Views.{not_both, each_set, each_snoc, each_one, place_set, place_snoc}
 
 module _ (X : Type 0) where

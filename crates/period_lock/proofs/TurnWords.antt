@@ -1,15 +1,10 @@
 -- The two words of a turn after one of them is set, and what fits at a seat.
 use Rattle.std.proofs.Common.{◌≡◌, ℕ, ◌%◌, ◌^◌, ◌<◌, zero, suc, List, [], ◌∷◌, ◌++◌, length, set, Some, Option, Bool}
-use Rattle.std.proofs.Common.{refl, sym, ap, ◌∙◌, arith}
-use Rattle.std.specs.Prelude.{slice_index}
-use Rattle.std.proofs.Math.Nat.{mod-eq_of_lt}
+use Rattle.std.{proofs.{Common.{refl, sym, ap, ◌∙◌, arith}, Math.Nat.mod-eq_of_lt}, specs.Prelude.slice_index}
 use mathlib.Core.Option.{some, some-ne-none}
 use lib.ListN.{get_elem?}
-use Rattle.period_lock.specs.declared.rule.View.{View}
-use Rattle.period_lock.specs.declared.rule.Part.{Part}
-use Rattle.period_lock.specs.Turns.{entry_by}
-use Rattle.period_lock.specs.Kept.{IsPartOf, Fits, seated_view, parts_of, times}
-use Rattle.period_lock.proofs.Entries.{parts_apart}
+use Rattle.period_lock.specs.{declared.rule.{View.View, Part.Part}, Turns.entry_by, Kept.{IsPartOf, Fits, seated_view}}
+use Rattle.period_lock.{specs.Kept.{parts_of, times}, proofs.Entries.parts_apart}
 
 pub some_is : {S : Type 0} (a b : S) → Some a ≡ Some b → a ≡ b
 some_is a b e = cc

@@ -1,25 +1,19 @@
 -- The steps of a turn keep the one list.
-use Rattle.std.proofs.Common.{◌≡◌, ◌≢◌, ℕ, ◌+◌, ◌%◌, ◌^◌, ◌<◌, List, [], ◌∷◌, ◌++◌, length, set}
-use Rattle.std.proofs.Common.{Some, None, Option, Bool, true, false}
-use Rattle.std.proofs.Common.{refl, sym, ap, ◌∙◌, subst, ⊎_elim, inl, inr, arith, length-set, length-append, eqb}
-use Rattle.std.proofs.Common.{eq-eqb}
-use Rattle.std.specs.Prelude.{slice_index, option_to_list}
-use Rattle.std.proofs.lemmas.List.{append-nil}
+use Rattle.std.proofs.Common.{◌≡◌, ◌≢◌, ℕ, ◌+◌, ◌%◌, ◌^◌, ◌<◌, List, [], ◌∷◌, ◌++◌, length, set, Some, None, Option}
+use Rattle.std.proofs.Common.{Bool, true, false, refl, sym, ap, ◌∙◌, subst, ⊎_elim, inl, inr, arith, length-set}
+use Rattle.std.{proofs.{Common.{length-append, eqb, eq-eqb}, lemmas.List.append-nil}, specs.Prelude.slice_index}
+use Rattle.std.specs.Prelude.{option_to_list}
 use mathlib.Core.Option.{some}
 use lib.ListN.{get_elem?}
 use prog.Atomic.{either}
 use Rattle.atomic_table.specs.Table.{State, Me, Act, keeps, takes, gives, rest, carried_after, Valid, Allows, stepped}
 use Rattle.atomic_table.proofs.Lists.{at_set, set_again, set_here}
-use Rattle.period_lock.specs.declared.rule.View.{View}
-use Rattle.period_lock.specs.declared.rule.Part.{Part}
-use Rattle.period_lock.specs.Turns.{entries, entry_by}
-use Rattle.period_lock.specs.Kept.{IsPartOf, Fits, IsHome, IsOut, Kept, Takes, Tries, Counts, Gives, IsFree}
-use Rattle.period_lock.specs.Kept.{IsHolding, seated_view, grown_part, parts_of, times}
-use Rattle.period_lock.proofs.Sums.{sum_same, two_at_most_sum}
-use Rattle.period_lock.proofs.Entries.{length-entry_by, numbered_after, part_grown}
-use Rattle.period_lock.proofs.Views.{not_both, not_true, each_set}
-use Rattle.period_lock.proofs.TurnWords.{some_is, at_inside, first_set, second_set, first_same, second_same}
-use Rattle.period_lock.proofs.TurnWords.{second_again, small_word, fits_seated, fits_other}
+use Rattle.period_lock.specs.{declared.rule.{View.View, Part.Part}, Turns.{entries, entry_by}, Kept.{IsPartOf, Fits}}
+use Rattle.period_lock.specs.Kept.{IsHome, IsOut, Kept, Takes, Tries, Counts, Gives, IsFree, IsHolding, seated_view}
+use Rattle.period_lock.{specs.Kept.{grown_part, parts_of, times}, proofs.Sums.{sum_same, two_at_most_sum}}
+use Rattle.period_lock.proofs.{Entries.{length-entry_by, numbered_after, part_grown}, Views.{not_both, not_true}}
+use Rattle.period_lock.proofs.{Views.each_set, TurnWords.{some_is, at_inside, first_set, second_set, first_same}}
+use Rattle.period_lock.proofs.TurnWords.{second_same, second_again, small_word, fits_seated, fits_other}
 
 module _ {T S X : Type 0} (stands : T → S → List X → Type 0) (front : ℕ) (start : S) (count : ℕ) where
   -- the turn was free

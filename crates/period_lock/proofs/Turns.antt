@@ -1,15 +1,10 @@
 -- What a pass knows after a turn.
-use Rattle.std.proofs.Common.{◌≡◌, ℕ, ◌+◌, List, [], ◌++◌, length, Some, None, Option, false}
-use Rattle.std.proofs.Common.{refl, sym, ap, ◌∙◌, subst, arith, length-append}
-use Rattle.std.specs.Prelude.{option_to_list}
-use Rattle.std.proofs.lemmas.List.{length-map}
+use Rattle.std.proofs.Common.{◌≡◌, ℕ, ◌+◌, List, [], ◌++◌, length, Some, None, Option, false, refl, sym, ap, ◌∙◌, subst}
+use Rattle.std.{proofs.{Common.{arith, length-append}, lemmas.List.length-map}, specs.Prelude.option_to_list}
 use Rattle.atomic_table.specs.Table.{Me}
-use Rattle.period_lock.specs.declared.rule.View.{View}
-use Rattle.period_lock.specs.declared.rule.Part.{Part}
-use Rattle.period_lock.specs.Turns.{entries, entries_by, entry_by}
-use Rattle.period_lock.specs.Kept.{IsFree, IsIdle, IsHolding, HasTaken, seated_view, grown_part}
-use Rattle.period_lock.proofs.Entries.{length-entry_by, entries-entry_by, own_after}
-use Rattle.period_lock.proofs.TurnWords.{some_is}
+use Rattle.period_lock.specs.{declared.rule.{View.View, Part.Part}, Turns.{entries, entries_by, entry_by}, Kept.IsFree}
+use Rattle.period_lock.specs.Kept.{IsIdle, IsHolding, HasTaken, seated_view, grown_part}
+use Rattle.period_lock.proofs.{Entries.{length-entry_by, entries-entry_by, own_after}, TurnWords.some_is}
 
 module _ {T S X : Type 0} (stands : T → S → List X → Type 0) (start : S) (own : Part X) (e : Option X) (value : T)
     (taken counted given : Me (Option T) (View S X)) where

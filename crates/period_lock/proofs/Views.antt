@@ -1,13 +1,10 @@
 -- What is said of each view, and where the value is, after a view has changed or a new one has come.
-use Rattle.std.proofs.Common.{◌≡◌, ◌≢◌, ◌⊎◌, ℕ, zero, suc, List, [], ◌∷◌, ◌++◌, set, Option, Bool}
-use Rattle.std.proofs.Common.{true, false, refl, sym, ap, ◌∙◌, subst, ⊎_elim, inl, inr}
-use Rattle.std.proofs.lemmas.Bool.{false≢true}
+use Rattle.std.proofs.Common.{◌≡◌, ◌≢◌, ◌⊎◌, ℕ, zero, suc, List, [], ◌∷◌, ◌++◌, set, Option, Bool, true, false, refl}
+use Rattle.std.proofs.{Common.{sym, ap, ◌∙◌, subst, ⊎_elim, inl, inr}, lemmas.Bool.false≢true}
 use mathlib.Core.Option.{some, some-ne-none, some-injective}
 use lib.ListN.{get_elem?}
-use Rattle.atomic_table.specs.Table.{State}
-use Rattle.atomic_table.proofs.Lists.{at_set, at_snoc, at_longer, set_else}
-use Rattle.period_lock.specs.declared.rule.View.{View}
-use Rattle.period_lock.specs.Kept.{IsHome, IsOut}
+use Rattle.atomic_table.{specs.Table.State, proofs.Lists.{at_set, at_snoc, at_longer, set_else}}
+use Rattle.period_lock.specs.{declared.rule.View.View, Kept.{IsHome, IsOut}}
 
 pub not_true : (b : Bool) → (b ≡ true → ⊥) → b ≡ false
 not_true true never = absurd (never refl)

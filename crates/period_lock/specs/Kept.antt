@@ -1,15 +1,12 @@
 -- The rule of a lock's table: one list of entries for all passes, and what each step makes of a seat.
 use Rattle.std.specs.Prelude.{◌≡◌, ◌⊎◌, ◌<◌, ◌==◌, ◌+◌, ◌-◌, ℕ, zero, suc, Bool, true, false, List, [], ◌∷◌, ◌++◌}
-use Rattle.std.specs.Prelude.{length, slice_index, Option, Some, None, MatchBool, drop}
-use Rattle.std.specs.List.{sum_by, count_by, AllByRecursion}
+use Rattle.std.specs.{Prelude.{length, slice_index, Option, Some, None, MatchBool, drop}, List.{sum_by, count_by}}
+use Rattle.std.specs.List.{AllByRecursion}
 use mathlib.Core.Option.{some, none}
 use mathlib.Core.List.{IsPrefix}
 use lib.ListN.{get_elem?}
-use Rattle.atomic_table.specs.Table.{State, Me, rest}
-use Rattle.atomic_table.specs.Seated.{TableId}
-use Rattle.period_lock.specs.declared.rule.View.{View}
-use Rattle.period_lock.specs.declared.rule.Part.{Part}
-use Rattle.period_lock.specs.Turns.{entries, entries_by, entry_by, Knowledge}
+use Rattle.atomic_table.specs.{Table.{State, Me, rest}, Seated.TableId}
+use Rattle.period_lock.specs.{declared.rule.{View.View, Part.Part}, Turns.{entries, entries_by, entry_by, Knowledge}}
 
 module _ {X : Type 0} where
   -- a pass with this number that has seen nothing
@@ -61,6 +58,7 @@ module _ {S X : Type 0} where
   abbrev pub without_first : View S X → View S X
   without_first v = record v { others = drop 1 v.others }
 
+  -- a seat that has these parts alone
   abbrev pub alone : Option S → List (Part X) → View S X
   alone start [] = spent
   alone start (part ∷ parts) = record { start = start; holds = false; own = part; others = [] }

@@ -1,7 +1,6 @@
 -- What is known of a lock and of its passes, and what a turn, the first passes and a closed lock say.
-use Rattle.std.specs.Prelude.{◌≡◌, ◌<◌, ◌==◌, ℕ, List, [], ◌∷◌, ◌++◌, All, length, map, filter, slice_get}
-use Rattle.std.specs.Prelude.{Option, Some, None, IsPermutation}
-use Rattle.std.specs.List.{flat_map}
+use Rattle.std.specs.Prelude.{◌≡◌, ◌<◌, ◌==◌, ℕ, List, [], ◌∷◌, ◌++◌, All, length, map, filter, slice_get, Option, Some}
+use Rattle.std.specs.{Prelude.{None, IsPermutation}, List.flat_map}
 use mathlib.Core.List.{IsPrefix}
 use Rattle.atomic_table.specs.Seated.{TableId}
 

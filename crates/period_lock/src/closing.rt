@@ -1,7 +1,6 @@
 // The meeting of all passes, and the value that they leave.
 ghost use Rattle.std.specs.Prelude.{◌≡◌, ◌<◌, ◌≤◌, ◌++◌, [], ◌∷◌, length, map};
-ghost use Rattle.period_lock.specs.Kept.{IsTurnTable, part_of, gathered_view};
-ghost use Rattle.period_lock.specs.Turns.{AreOf, EndsIn};
+ghost use Rattle.period_lock.specs.{Kept.{IsTurnTable, part_of, gathered_view}, Turns.{AreOf, EndsIn}};
 
 use crate::moves::Meeting;
 use crate::pass::Pass;

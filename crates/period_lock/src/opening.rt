@@ -1,7 +1,6 @@
 // A new table, and its first passes.
 ghost use Rattle.std.specs.Prelude.{◌≡◌, ◌<◌, ◌≤◌, [], vec_capacity, IfOk};
-ghost use Rattle.period_lock.specs.Kept.{IsTurnTable, IsFree, first_view, fresh_part};
-ghost use Rattle.period_lock.specs.Turns.{AreDealt, newcomer};
+ghost use Rattle.period_lock.specs.{Kept.{IsTurnTable, IsFree, first_view, fresh_part}, Turns.{AreDealt, newcomer}};
 
 use crate::moves::Parting;
 use crate::pass::Pass;

@@ -1,7 +1,6 @@
 // The right to take turns.
 ghost use Rattle.std.specs.Prelude.{◌≡◌, ◌+◌, length, Some};
-ghost use Rattle.period_lock.specs.Turns.{Knowledge, entries_by};
-ghost use Rattle.period_lock.specs.Kept.{IsIdle};
+ghost use Rattle.period_lock.specs.{Turns.{Knowledge, entries_by}, Kept.IsIdle};
 
 use crate::steps::TurnSeat;
 use crate::storied::Storied;

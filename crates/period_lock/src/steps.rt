@@ -1,7 +1,6 @@
 // The steps of a turn.
 ghost use Rattle.std.specs.Prelude.{◌≡◌, ◌+◌, ◌<◌, ◌^◌, length, option_to_list, None, IfSome, IfNone};
-ghost use Rattle.period_lock.specs.Kept.{IsTurnTable, IsFree, IsHolding, HasTaken, grown_part};
-ghost use Rattle.period_lock.specs.Turns.{entries};
+ghost use Rattle.period_lock.specs.{Kept.{IsTurnTable, IsFree, IsHolding, HasTaken, grown_part}, Turns.entries};
 
 use crate::moves::{Adding, Count, Give, Try};
 use crate::rule::{About, Law, View};

@@ -4,4 +4,3 @@ pub mod Telling
 pub mod TellingVotes
 pub mod DigestSizes
 pub mod TellingSigners
-pub mod Drops

@@ -1,11 +1,8 @@
 -- The next period, as the definitions have it, is the one that the schedule's relation names.
-use Rattle.std.proofs.Common.{◌≡◌, ℕ, ◌+◌, ◌*◌, ◌≤◌, ◌<◌, Bool, true, false, nat_le, cond, Option, Some, None, refl}
-use Rattle.std.proofs.Common.{ap, arith}
-use Rattle.std.specs.Prelude.{max}
-use Rattle.std.proofs.lemmas.Bool.{leb-true, leb-false}
+use Rattle.std.proofs.Common.{◌≡◌, ℕ, ◌+◌, ◌*◌, ◌≤◌, ◌<◌, Bool, true, false, nat_le, cond, Option, Some, None, refl, ap}
+use Rattle.std.{proofs.{Common.arith, lemmas.Bool.{leb-true, leb-false}}, specs.Prelude.max}
 use Rattle.dir_bytes.specs.Causes.{last_moment}
-use Rattle.vote_schedule.specs.Schedules.{Schedule, IsSchedule}
-use Rattle.vote_schedule.specs.Moments.{IsNext, AnswersNext, valid_until}
+use Rattle.vote_schedule.specs.{Schedules.{Schedule, IsSchedule}, Moments.{IsNext, AnswersNext, valid_until}}
 use Rattle.vote_schedule.proofs.Multiples.{next_as_answered}
 use Rattle.period_terms.specs.Schedules.{multiple_from, next_begin, NextIsNext}
 

@@ -1,15 +1,10 @@
 -- A vote that is put among others: which votes are then found.
-use Rattle.std.proofs.Common.{◌≡◌, Bool, true, false, cond, List, [], ◌∷◌, ◌++◌, Option, Some, fold, refl, sym, ap}
-use Rattle.std.proofs.Common.{◌∙◌, subst, inl, inr}
-use Rattle.std.proofs.lemmas.Bool.{false≢true}
-use Rattle.dir_values.specs.declared.digest.Fingerprint.{Fingerprint}
-use Rattle.dir_values.specs.Digests.{identity_below, same_identity}
-use Rattle.vote_terms.specs.Votes.{ReadVote}
-use Rattle.vote_terms.specs.Held.{held, outranks, votes_with, same_authority, vote_of}
-use Rattle.vote_terms.proofs.HeldLaw.{In, Ascends}
-use Rattle.vote_terms.proofs.HeldOrder.{held_ascend, from_pairs}
-use Rattle.vote_terms.proofs.Orders.{Below, not_itself, same_one}
-use Rattle.std.specs.Cmp.Lexicographic.{bytes_decides}
+use Rattle.std.proofs.Common.{◌≡◌, Bool, true, false, cond, List, [], ◌∷◌, ◌++◌, Option, Some, fold, refl, sym, ap, ◌∙◌}
+use Rattle.std.{proofs.{Common.{subst, inl, inr}, lemmas.Bool.false≢true}, specs.Cmp.Lexicographic.bytes_decides}
+use Rattle.dir_values.specs.{declared.digest.Fingerprint.Fingerprint, Digests.{identity_below, same_identity}}
+use Rattle.vote_terms.specs.{Votes.ReadVote, Held.{held, outranks, votes_with, same_authority, vote_of}}
+use Rattle.vote_terms.proofs.{HeldLaw.{In, Ascends}, HeldOrder.{held_ascend, from_pairs}, Orders.{Below, not_itself}}
+use Rattle.vote_terms.proofs.Orders.{same_one}
 
 -- an identity is the same as itself
 pub itself : (a : Fingerprint) → same_identity a a ≡ true

@@ -1,23 +1,17 @@
 -- What changes tell of a state, and what one change more does.
-use Rattle.std.proofs.Common.{◌≡◌, ℕ, ◌+◌, ◌&&◌, ◌||◌, Bool, true, false, cond, List, [], ◌∷◌, ◌++◌, length}
-use Rattle.std.proofs.Common.{count_by, Option, Some, None, option_map, refl, sym, ap, ◌∙◌, arith}
-use Rattle.std.proofs.Common.{length-append}
+use Rattle.std.proofs.Common.{◌≡◌, ℕ, ◌+◌, ◌&&◌, ◌||◌, Bool, true, false, cond, List, [], ◌∷◌, ◌++◌, length, count_by}
+use Rattle.std.proofs.Common.{Option, Some, None, option_map, refl, sym, ap, ◌∙◌, arith, length-append}
 use Rattle.std.specs.List.{list_any}
 use Rattle.dir_values.specs.declared.digest.Fingerprint.{Fingerprint}
 use Rattle.vote_terms.specs.Votes.{ReadVote, rank_of}
-use Rattle.consensus_terms.specs.declared.flavour.Flavour.{Flavour}
-use Rattle.consensus_terms.specs.declared.flavour.Flavour.TheVariants.{Ns, Microdesc}
+use Rattle.consensus_terms.specs.declared.flavour.Flavour.{Flavour, TheVariants.{Ns, Microdesc}}
 use Rattle.consensus_terms.specs.declared.signature.SignatureLine.{SignatureLine}
-use Rattle.period_terms.specs.declared.change.Change.{Change}
-use Rattle.period_terms.specs.declared.change.ChangeKind.TheVariants as kind
-use Rattle.period_terms.specs.declared.stage.Stage.{Stage}
-use Rattle.period_terms.specs.declared.stage.Stage.TheVariants.{Voting}
-use Rattle.period_terms.specs.declared.state.State.{State}
-use Rattle.period_terms.specs.States.{vote_of, lines_of, has_line}
+use Rattle.period_terms.specs.declared.{change.Change.Change, stage.Stage.{Stage, TheVariants.Voting}}
+use Rattle.period_terms.specs.{declared.state.State.State, States.{vote_of, lines_of, has_line}}
 use Rattle.period_terms.specs.KeptFacts.{AgreesWithChanges, is_of, keeps_vote, keeps_vote_of, rank_told, last_of}
 use Rattle.period_terms.specs.KeptFacts.{last_rank, stage_by, last_stage, has_flavour, keeps_signature, keeps_line}
-use Rattle.period_terms.specs.KeptFacts.{was_kept}
-use Rattle.period_terms.proofs.Placing.{fold_push}
+use Rattle.period_terms.{specs.KeptFacts.was_kept, proofs.Placing.fold_push}
+use Rattle.period_terms.specs.declared.change.ChangeKind.TheVariants as kind
 
 -- what changes tell of these parts of a state
 pub record Tells (votes : List ReadVote) (stage : Stage) (ns micro : List SignatureLine) (vote_changes front base : ℕ)

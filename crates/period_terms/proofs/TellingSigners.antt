@@ -1,29 +1,18 @@
 -- What the changes of signatures tell.
 use Rattle.std.proofs.Common.{◌≡◌, ℕ, ◌+◌, ◌&&◌, ◌||◌, Bool, true, false, cond, not, List, [], ◌∷◌, ◌++◌, length}
 use Rattle.std.proofs.Common.{filter, Some, refl, sym, ap, ◌∙◌}
-use Rattle.dir_values.specs.declared.digest.Fingerprint.{Fingerprint}
-use Rattle.dir_values.specs.Digests.{same_identity}
-use Rattle.consensus_terms.specs.declared.consensus.Consensus.{Consensus}
-use Rattle.consensus_terms.specs.declared.flavour.Flavour.{Flavour}
-use Rattle.consensus_terms.specs.declared.flavour.Flavour.TheVariants.{Ns, Microdesc}
-use Rattle.consensus_terms.specs.declared.signature.SignatureLine.{SignatureLine}
-use Rattle.period_terms.specs.declared.change.Change.{Change}
-use Rattle.period_terms.specs.declared.change.ChangeKind.TheVariants as kind
-use Rattle.period_terms.specs.declared.signature.OfferedSignature.{OfferedSignature}
-use Rattle.period_terms.specs.declared.stage.Stage.TheVariants.{Signed}
-use Rattle.period_terms.specs.declared.state.State.{State}
-use Rattle.vote_terms.proofs.Orders.{same_one}
+use Rattle.dir_values.specs.{declared.digest.Fingerprint.Fingerprint, Digests.same_identity}
+use Rattle.consensus_terms.specs.declared.{consensus.Consensus.Consensus, flavour.Flavour.{Flavour, TheVariants.Ns}}
+use Rattle.consensus_terms.specs.declared.{flavour.Flavour.TheVariants.Microdesc, signature.SignatureLine.SignatureLine}
 use Rattle.consensus_terms.specs.Texts.{unsigned}
-use Rattle.period_terms.specs.States.{with_change, has_line}
-use Rattle.period_terms.specs.States.{with_signature, digest_of, both_digests, change}
-use Rattle.period_terms.specs.Advances.{own_line}
-use Rattle.period_terms.specs.SignIns.{line_of, with_line}
-use Rattle.period_terms.specs.KeptFacts.{has_flavour, keeps_line}
-use Rattle.period_terms.specs.KeptFacts.{was_kept}
-use Rattle.period_terms.proofs.DigestSizes.{ns_size, micro_size, both_size}
-use Rattle.period_terms.proofs.Telling.{Tells, TellsAt, any_push, or_none, kept_push, ranks_stay, stage_push}
-use Rattle.period_terms.proofs.Telling.{count_stays}
-use Rattle.period_terms.proofs.Telling.{length_push}
+use Rattle.period_terms.specs.declared.{change.Change.Change, signature.OfferedSignature.OfferedSignature}
+use Rattle.period_terms.specs.{declared.{stage.Stage.TheVariants.Signed, state.State.State}, States.with_change}
+use Rattle.period_terms.specs.{States.{has_line, with_signature, digest_of, both_digests, change}, Advances.own_line}
+use Rattle.period_terms.specs.{SignIns.{line_of, with_line}, KeptFacts.{has_flavour, keeps_line, was_kept}}
+use Rattle.period_terms.proofs.{DigestSizes.{ns_size, micro_size, both_size}, Telling.{Tells, TellsAt, any_push}}
+use Rattle.period_terms.proofs.Telling.{or_none, kept_push, ranks_stay, stage_push, count_stays, length_push}
+use Rattle.period_terms.specs.declared.change.ChangeKind.TheVariants as kind
+use Rattle.vote_terms.proofs.Orders.{same_one}
 
 -- those that a filter drops are of another identity than one that is looked for
 dropped : (lines : List SignatureLine) (own a : Fingerprint) → same_identity own a ≡ false

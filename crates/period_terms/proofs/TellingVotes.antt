@@ -1,19 +1,14 @@
 -- What the change of a vote tells.
-use Rattle.std.proofs.Common.{◌≡◌, ℕ, ◌+◌, ◌&&◌, ◌||◌, Bool, true, false, cond, [], ◌∷◌, ◌++◌}
-use Rattle.std.proofs.Common.{Option, Some, option_map, refl, sym, ap, ◌∙◌, subst}
-use Rattle.dir_values.specs.declared.digest.Fingerprint.{Fingerprint}
-use Rattle.dir_values.specs.Digests.{same_identity}
-use Rattle.vote_terms.specs.Votes.{ReadVote, rank_of}
+use Rattle.std.proofs.Common.{◌≡◌, ℕ, ◌+◌, ◌&&◌, ◌||◌, Bool, true, false, cond, [], ◌∷◌, ◌++◌, Option, Some, option_map}
+use Rattle.std.proofs.Common.{refl, sym, ap, ◌∙◌, subst}
+use Rattle.dir_values.specs.{declared.digest.Fingerprint.Fingerprint, Digests.same_identity}
+use Rattle.vote_terms.{specs.{Votes.{ReadVote, rank_of}, Held.votes_with}, proofs.Orders.same_one}
 use Rattle.consensus_terms.specs.declared.flavour.Flavour.TheVariants.{Ns, Microdesc}
 use Rattle.period_terms.specs.declared.change.ChangeKind.TheVariants as kind
-use Rattle.period_terms.specs.declared.state.State.{State}
-use Rattle.vote_terms.specs.Held.{votes_with}
-use Rattle.vote_terms.proofs.Orders.{same_one}
-use Rattle.period_terms.specs.States.{vote_of}
-use Rattle.period_terms.specs.Offers.{vote_change, with_vote}
-use Rattle.period_terms.specs.KeptFacts.{keeps_vote_of, rank_told, last_of}
-use Rattle.period_terms.proofs.Placing.{Beats, placed_new, placed_other}
-use Rattle.period_terms.proofs.Telling.{TellsAt, signers_stay, rank_push, stage_push, count_push, length_push}
+use Rattle.period_terms.specs.{declared.state.State.State, States.vote_of, Offers.{vote_change, with_vote}}
+use Rattle.period_terms.{specs.KeptFacts.{keeps_vote_of, rank_told, last_of}, proofs.Placing.{Beats, placed_new}}
+use Rattle.period_terms.proofs.{Placing.placed_other, Telling.{TellsAt, signers_stay, rank_push, stage_push}}
+use Rattle.period_terms.proofs.Telling.{count_push, length_push}
 
 ranks_by : (b : Bool) (s : State) (v : ReadVote) (a : Fingerprint) → same_identity v.says.identity a ≡ b
     → Beats s.votes v

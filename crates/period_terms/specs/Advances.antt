@@ -1,30 +1,23 @@
 -- What a moment is answered, and what it changes: one step of the period (dir-spec, "Timeline").
 use Rattle.std.specs.Prelude.{◌≡◌, ◌⊎◌, ℕ, ◌+◌, nat_lt, Bool, true, ◌||◌, List, [], ◌++◌, length, codes, Option, Some}
-use Rattle.std.specs.Prelude.{None, option_map, unwrap_or, if◌then◌else◌}
-use Rattle.std.specs.List.{find}
-use Rattle.dir_values.specs.Digests.{same_identity}
+use Rattle.std.specs.{Prelude.{None, option_map, unwrap_or, if◌then◌else◌}, List.find}
+use Rattle.dir_values.specs.{Digests.same_identity, declared.digest.Fingerprint.Fingerprint}
 use Rattle.sha1.specs.Sha1.{sha1}
-use Rattle.dir_values.specs.declared.digest.Fingerprint.{Fingerprint}
 use Rattle.key_port.specs.Answers.{Relation, Rules}
 use Rattle.key_port.specs.declared.verifier.KeyKind.TheVariants as key_kind
 use Rattle.vote_terms.specs.Votes.{ReadVote}
-use Rattle.consensus_terms.specs.declared.consensus.Consensus.{Consensus}
-use Rattle.consensus_terms.specs.declared.flavour.Flavour.{Flavour}
-use Rattle.consensus_terms.specs.declared.flavour.Flavour.TheVariants.{Ns, Microdesc}
-use Rattle.consensus_terms.specs.declared.signature.SignatureLine.{SignatureLine}
+use Rattle.consensus_terms.specs.declared.{consensus.Consensus.Consensus, flavour.Flavour.{Flavour, TheVariants.Ns}}
+use Rattle.consensus_terms.specs.declared.{flavour.Flavour.TheVariants.Microdesc, signature.SignatureLine.SignatureLine}
 use Rattle.count_terms.specs.Counts.{over}
-use Rattle.period_terms.specs.declared.answer.Advance.{Advance}
+use Rattle.period_terms.specs.declared.{answer.Advance.Advance, event.Signing.{Signing, TheVariants.Given}}
+use Rattle.period_terms.specs.declared.event.Signing.TheVariants.{SignerFails, VerifierFails, Refused}
+use Rattle.period_terms.specs.declared.stage.Stage.{Stage, TheVariants.{Voting, Frozen, Computed, Signed, Ended}}
+use Rattle.period_terms.specs.{declared.state.State.State, Schedules.next_valid_after, States.Outcome}
+use Rattle.period_terms.specs.States.{unchanged_outcome, vote_of, consensus_of, digest_of, both_digests, with_signature}
+use Rattle.period_terms.specs.States.{signers, is_signed, signed_text, change, with_change}
 use Rattle.period_terms.specs.declared.answer.Advance.TheVariants as answer
 use Rattle.period_terms.specs.declared.change.ChangeKind.TheVariants as kind
-use Rattle.period_terms.specs.declared.event.Signing.{Signing}
-use Rattle.period_terms.specs.declared.event.Signing.TheVariants.{Given, SignerFails, VerifierFails, Refused}
-use Rattle.period_terms.specs.declared.stage.Stage.{Stage}
-use Rattle.period_terms.specs.declared.stage.Stage.TheVariants.{Voting, Frozen, Computed, Signed, Ended}
-use Rattle.period_terms.specs.declared.state.State.{State}
 use Rattle.vote_schedule.specs.Moments as schedule_moments
-use Rattle.period_terms.specs.Schedules.{next_valid_after}
-use Rattle.period_terms.specs.States.{Outcome, unchanged_outcome, vote_of, consensus_of, digest_of, both_digests}
-use Rattle.period_terms.specs.States.{with_signature, signers, is_signed, signed_text, change, with_change}
 
 -- ---- the freeze and the consensus
 

@@ -1,7 +1,6 @@
 -- Signatures of which an authority's are dropped.
 use Rattle.std.specs.Prelude.{◌≡◌, ◌≤◌, ◌<◌, ◌+◌, ℕ, not, List, ◌++◌, take, drop, length, filter}
-use Rattle.dir_values.specs.Digests.{same_identity}
-use Rattle.dir_values.specs.declared.digest.Fingerprint.{Fingerprint}
+use Rattle.dir_values.specs.{Digests.same_identity, declared.digest.Fingerprint.Fingerprint}
 use Rattle.consensus_terms.specs.declared.signature.SignatureLine.{SignatureLine}
 
 -- the signatures of all others than an authority

@@ -1,23 +1,16 @@
 -- Whole lists of events, and the history that they leave.
 use Rattle.std.specs.Prelude.{◌≡◌, ℕ, Bool, true, List, [], ◌∷◌, ◌++◌, Some, None, if◌then◌else◌, Option}
 use Rattle.count_terms.specs.declared.newest.Newest.{Newest}
-use Rattle.dir_values.specs.declared.digest.Fingerprint.{Fingerprint}
-use Rattle.dir_values.specs.Rosters.{IsRoster, has_member}
+use Rattle.dir_values.specs.{declared.digest.Fingerprint.Fingerprint, Rosters.{IsRoster, has_member}}
 use Rattle.vote_terms.specs.Votes.{ReadVote}
-use Rattle.period_terms.specs.declared.answer.Answer.{Answer}
-use Rattle.period_terms.specs.declared.answer.Answer.TheVariants.{Vote, Moment, Signature, Reading}
-use Rattle.period_terms.specs.declared.answer.Offer.{Offer}
-use Rattle.period_terms.specs.declared.answer.Offer.TheVariants as offers
-use Rattle.period_terms.specs.declared.answer.Advance.{Advance}
-use Rattle.period_terms.specs.declared.answer.Advance.TheVariants as moments
-use Rattle.period_terms.specs.declared.entry.Entry.{Entry}
-use Rattle.period_terms.specs.declared.event.Event.{Event}
+use Rattle.period_terms.specs.declared.answer.Answer.{Answer, TheVariants.{Vote, Moment, Signature, Reading}}
+use Rattle.period_terms.specs.declared.{answer.{Offer.Offer, Advance.Advance}, entry.Entry.Entry, event.Event.Event}
 use Rattle.period_terms.specs.declared.event.Event.TheVariants.{Offered, Advanced, SignedIn, Read}
-use Rattle.period_terms.specs.declared.stage.Stage.TheVariants.{Voting}
-use Rattle.period_terms.specs.declared.state.State.{State}
-use Rattle.vote_schedule.specs.Schedules.{Schedule, IsSchedule}
-use Rattle.period_terms.specs.Schedules.{next_valid_after}
+use Rattle.period_terms.specs.{declared.{stage.Stage.TheVariants.Voting, state.State.State}, Schedules.next_valid_after}
 use Rattle.period_terms.specs.Steps.{step, changes}
+use Rattle.period_terms.specs.declared.answer.Offer.TheVariants as offers
+use Rattle.period_terms.specs.declared.answer.Advance.TheVariants as moments
+use Rattle.vote_schedule.specs.Schedules.{Schedule, IsSchedule}
 
 -- ---- the start
 

@@ -1,20 +1,13 @@
 -- What the stored changes of a period tell of the state.
 use Rattle.std.specs.Prelude.{◌≡◌, ◌==◌, ℕ, ◌+◌, Bool, true, false, ◌&&◌, ◌||◌, List, length, fold, count_by, Option}
-use Rattle.std.specs.Prelude.{Some, None, option_map, if◌then◌else◌}
-use Rattle.std.specs.List.{list_any}
-use Rattle.dir_values.specs.declared.digest.Fingerprint.{Fingerprint}
-use Rattle.dir_values.specs.Digests.{same_identity}
-use Rattle.vote_terms.specs.declared.rank.Rank.{Rank}
-use Rattle.vote_terms.specs.Votes.{rank_of}
-use Rattle.consensus_terms.specs.declared.flavour.Flavour.{Flavour}
-use Rattle.consensus_terms.specs.declared.flavour.Flavour.TheVariants.{Ns, Microdesc}
-use Rattle.period_terms.specs.declared.change.Change.{Change}
-use Rattle.period_terms.specs.declared.change.ChangeKind.{ChangeKind}
-use Rattle.period_terms.specs.declared.change.ChangeKind.TheVariants as kind
-use Rattle.period_terms.specs.declared.stage.Stage.{Stage}
+use Rattle.std.specs.{Prelude.{Some, None, option_map, if◌then◌else◌}, List.list_any}
+use Rattle.dir_values.specs.{declared.digest.Fingerprint.Fingerprint, Digests.same_identity}
+use Rattle.vote_terms.specs.{declared.rank.Rank.Rank, Votes.rank_of}
+use Rattle.consensus_terms.specs.declared.flavour.Flavour.{Flavour, TheVariants.{Ns, Microdesc}}
+use Rattle.period_terms.specs.declared.{change.{Change.Change, ChangeKind.ChangeKind}, stage.Stage.Stage}
 use Rattle.period_terms.specs.declared.stage.Stage.TheVariants.{Voting, Frozen, Computed, Signed, Ended}
-use Rattle.period_terms.specs.declared.state.State.{State}
-use Rattle.period_terms.specs.States.{vote_of, lines_of, has_line}
+use Rattle.period_terms.specs.{declared.state.State.State, States.{vote_of, lines_of, has_line}}
+use Rattle.period_terms.specs.declared.change.ChangeKind.TheVariants as kind
 
 -- whether a change is of an authority
 abbrev pub is_of : Option Fingerprint → Fingerprint → Bool

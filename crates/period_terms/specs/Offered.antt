@@ -1,7 +1,6 @@
 -- A line of signatures as it is offered to an authority.
 use Rattle.std.specs.Prelude.{ℕ, List}
-use Rattle.consensus_terms.specs.declared.flavour.Flavour.{Flavour}
-use Rattle.consensus_terms.specs.declared.signature.SignatureLine.{SignatureLine}
+use Rattle.consensus_terms.specs.declared.{flavour.Flavour.Flavour, signature.SignatureLine.SignatureLine}
 use Rattle.period_terms.specs.declared.signature.OfferedSignature.{OfferedSignature}
 
 -- a line as it is offered: for a period, over a digest of a flavour, by a key

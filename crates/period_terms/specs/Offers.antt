@@ -1,17 +1,12 @@
 -- What an offered vote is answered, and what it changes (dir-spec, "Vote-exchange").
 use Rattle.std.specs.Prelude.{ℕ, ◌+◌, ◌==◌, nat_le, Bool, not, ◌||◌, Option, Some, None, if◌then◌else◌}
 use Rattle.dir_values.specs.Rosters.{has_member}
-use Rattle.vote_terms.specs.Votes.{ReadVote, rank_of}
-use Rattle.vote_terms.specs.Held.{outranks, votes_with}
-use Rattle.period_terms.specs.declared.answer.Offer.{Offer}
-use Rattle.period_terms.specs.declared.answer.Offer.TheVariants.{OtherPeriod, Stranger, Late, Have, Older, Full, Kept}
-use Rattle.period_terms.specs.declared.answer.Offer.TheVariants.{Replaced}
-use Rattle.period_terms.specs.declared.change.Change.{Change}
+use Rattle.vote_terms.specs.{Votes.{ReadVote, rank_of}, Held.{outranks, votes_with}}
+use Rattle.period_terms.specs.declared.answer.Offer.{Offer, TheVariants.{OtherPeriod, Stranger, Late, Have, Older}}
+use Rattle.period_terms.specs.declared.{answer.Offer.TheVariants.{Full, Kept, Replaced}, change.Change.Change}
+use Rattle.period_terms.specs.{declared.{event.Via.Via, state.State.State}, Schedules.cutoff_of, States.Outcome}
+use Rattle.period_terms.specs.States.{unchanged_outcome, is_voting, vote_of, change, with_change}
 use Rattle.period_terms.specs.declared.change.ChangeKind.TheVariants as kind
-use Rattle.period_terms.specs.declared.event.Via.{Via}
-use Rattle.period_terms.specs.declared.state.State.{State}
-use Rattle.period_terms.specs.Schedules.{cutoff_of}
-use Rattle.period_terms.specs.States.{Outcome, unchanged_outcome, is_voting, vote_of, change, with_change}
 
 -- how many changes of votes a period may have
 abbrev pub most_vote_changes : ℕ

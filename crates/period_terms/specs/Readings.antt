@@ -1,15 +1,10 @@
 -- What is read of an authority (dir-spec, "Directory URLs").
-use Rattle.std.specs.Prelude.{ℕ, List, Option, option_map}
-use Rattle.std.specs.List.{find}
-use Rattle.std.specs.Str.{bytes_eq}
+use Rattle.std.specs.{Prelude.{ℕ, List, Option, option_map}, List.find, Str.bytes_eq}
 use Rattle.dir_values.specs.declared.digest.Digest1.{Digest1}
 use Rattle.vote_terms.specs.Votes.{ReadVote, vote_digest}
-use Rattle.consensus_terms.specs.declared.flavour.Flavour.{Flavour}
-use Rattle.consensus_terms.specs.declared.flavour.Flavour.TheVariants.{Ns, Microdesc}
-use Rattle.period_terms.specs.declared.state.State.{State}
-use Rattle.period_terms.specs.declared.name.Name.{Name}
+use Rattle.consensus_terms.specs.declared.flavour.Flavour.{Flavour, TheVariants.{Ns, Microdesc}}
+use Rattle.period_terms.specs.{declared.{state.State.State, name.Name.Name}, States.{vote_of, signed_text}}
 use Rattle.period_terms.specs.declared.name.Name.TheVariants as names
-use Rattle.period_terms.specs.States.{vote_of, signed_text}
 
 -- the text of a flavour that was published last
 abbrev pub current_of : Flavour → State → Option (List ℕ)

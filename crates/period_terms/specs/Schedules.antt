@@ -1,10 +1,9 @@
 -- The moments of a period (dir-spec, "Voting timeline").
 use Rattle.std.specs.Prelude.{ℕ, ◌+◌, ◌-◌, ◌*◌, ◌/◌, nat_le, max, Option, Some, None, if◌then◌else◌}
 use Rattle.dir_bytes.specs.Causes.{last_moment}
-use Rattle.vote_schedule.specs.Schedules.{Schedule, IsSchedule}
-use Rattle.vote_schedule.specs.Moments.{freeze, upload_cutoff, valid_until, AnswersNext}
-use Rattle.period_terms.specs.declared.event.Via.{Via}
-use Rattle.period_terms.specs.declared.event.Via.TheVariants.{Upload, Fetched, Own}
+use Rattle.vote_schedule.specs.{Schedules.{Schedule, IsSchedule}, Moments.{freeze, upload_cutoff, valid_until}}
+use Rattle.vote_schedule.specs.Moments.{AnswersNext}
+use Rattle.period_terms.specs.declared.event.Via.{Via, TheVariants.{Upload, Fetched, Own}}
 
 -- the least multiple of an interval that is no less than a number
 unfoldable pub multiple_from : ℕ → ℕ → ℕ

@@ -1,19 +1,13 @@
 -- What an offered signature is answered, and what it changes (dir-spec, "Exchanging detached signatures").
-use Rattle.std.specs.Prelude.{◌+◌, ◌==◌, not, [], ◌∷◌, ◌++◌, Option, Some, None, if◌then◌else◌}
-use Rattle.std.specs.Str.{bytes_eq}
-use Rattle.consensus_terms.specs.declared.consensus.Consensus.{Consensus}
-use Rattle.consensus_terms.specs.declared.flavour.Flavour.{Flavour}
-use Rattle.consensus_terms.specs.declared.flavour.Flavour.TheVariants.{Ns, Microdesc}
-use Rattle.consensus_terms.specs.declared.signature.SignatureLine.{SignatureLine}
-use Rattle.period_terms.specs.declared.answer.SignIn.{SignIn}
-use Rattle.period_terms.specs.declared.answer.SignIn.TheVariants.{OtherPeriod, NotComputed, OtherDigest, Stranger}
-use Rattle.period_terms.specs.declared.answer.SignIn.TheVariants.{Have, Closed, Kept}
+use Rattle.std.specs.{Prelude.{◌+◌, ◌==◌, not, [], ◌∷◌, ◌++◌, Option, Some, None, if◌then◌else◌}, Str.bytes_eq}
+use Rattle.consensus_terms.specs.declared.{consensus.Consensus.Consensus, flavour.Flavour.{Flavour, TheVariants.Ns}}
+use Rattle.consensus_terms.specs.declared.{flavour.Flavour.TheVariants.Microdesc, signature.SignatureLine.SignatureLine}
+use Rattle.period_terms.specs.declared.answer.SignIn.{SignIn, TheVariants.{OtherPeriod, NotComputed, OtherDigest}}
+use Rattle.period_terms.specs.declared.answer.SignIn.TheVariants.{Stranger, Have, Closed, Kept}
+use Rattle.period_terms.specs.declared.{signature.OfferedSignature.OfferedSignature, state.State.State}
+use Rattle.period_terms.specs.{Advances.algorithm_of, States.{Outcome, unchanged_outcome, is_ended, has_key, digest_of}}
+use Rattle.period_terms.specs.States.{lines_of, has_line, change, with_change}
 use Rattle.period_terms.specs.declared.change.ChangeKind.TheVariants as kind
-use Rattle.period_terms.specs.declared.signature.OfferedSignature.{OfferedSignature}
-use Rattle.period_terms.specs.declared.state.State.{State}
-use Rattle.period_terms.specs.Advances.{algorithm_of}
-use Rattle.period_terms.specs.States.{Outcome, unchanged_outcome, is_ended, has_key, digest_of, lines_of, has_line, change}
-use Rattle.period_terms.specs.States.{with_change}
 
 -- an offered signature as it is held
 abbrev pub line_of : OfferedSignature → SignatureLine

@@ -1,23 +1,15 @@
 -- What an authority holds, and what a change adds to it.
 use Rattle.std.specs.Prelude.{ℕ, ◌+◌, Bool, true, false, ◌&&◌, List, [], ◌∷◌, ◌++◌, length, count_by, filter, not}
-use Rattle.std.specs.Prelude.{Option}
-use Rattle.std.specs.List.{list_any}
-use Rattle.std.specs.Str.{bytes_eq}
-use Rattle.dir_values.specs.Digests.{same_identity}
-use Rattle.dir_values.specs.declared.digest.Fingerprint.{Fingerprint}
+use Rattle.std.specs.{Prelude.Option, List.list_any, Str.bytes_eq}
+use Rattle.dir_values.specs.{Digests.same_identity, declared.digest.Fingerprint.Fingerprint}
 use Rattle.vote_terms.specs.Votes.{ReadVote}
 pub use Rattle.vote_terms.specs.Held.{vote_of}
-use Rattle.consensus_terms.specs.declared.consensus.Consensus.{Consensus}
-use Rattle.consensus_terms.specs.declared.flavour.Flavour.{Flavour}
-use Rattle.consensus_terms.specs.declared.flavour.Flavour.TheVariants.{Ns, Microdesc}
-use Rattle.consensus_terms.specs.declared.signature.SignatureLine.{SignatureLine}
-use Rattle.consensus_terms.specs.Texts.{unsigned}
-use Rattle.consensus_terms.specs.Signed.{digests_of, signed}
+use Rattle.consensus_terms.specs.declared.{consensus.Consensus.Consensus, flavour.Flavour.{Flavour, TheVariants.Ns}}
+use Rattle.consensus_terms.specs.declared.{flavour.Flavour.TheVariants.Microdesc, signature.SignatureLine.SignatureLine}
+use Rattle.consensus_terms.specs.{Texts.unsigned, Signed.{digests_of, signed}}
 use Rattle.compute_terms.specs.Consensuses.{consensus}
 use Rattle.count_terms.specs.Counts.{over}
-use Rattle.period_terms.specs.declared.change.Change.{Change}
-use Rattle.period_terms.specs.declared.change.ChangeKind.{ChangeKind}
-use Rattle.period_terms.specs.declared.stage.Stage.{Stage}
+use Rattle.period_terms.specs.declared.{change.{Change.Change, ChangeKind.ChangeKind}, stage.Stage.Stage}
 use Rattle.period_terms.specs.declared.stage.Stage.TheVariants.{Voting, Frozen, Computed, Signed, Ended}
 use Rattle.period_terms.specs.declared.state.State.{State}
 

@@ -2,9 +2,7 @@
 ghost use Rattle.std.specs.Prelude.{◌≡◌, ◌≤◌, IfOk, length, true};
 ghost use Rattle.sha1.specs.Sha1.{sha1};
 ghost use Rattle.key_port.specs.declared.verifier.KeyKind.TheVariants as kind;
-ghost use Rattle.period_terms.specs.Advances.{algorithm_of};
-ghost use Rattle.period_terms.specs.SignIns.{line_of};
-ghost use Rattle.period_terms.specs.Offered.{offered_signature};
+ghost use Rattle.period_terms.specs.{Advances.algorithm_of, SignIns.line_of, Offered.offered_signature};
 
 use crate::short_bytes::ShortBytes;
 use consensus_terms::{Flavour, SignatureLine};
@@ -29,8 +27,7 @@ impl<V: Verifier> Model for CheckedSig<V> {
     ghost use Rattle.std.specs.Prelude.{◌≡◌, true};
     ghost use Rattle.sha1.specs.Sha1.{sha1};
     ghost use Rattle.key_port.specs.declared.verifier.KeyKind.TheVariants as kind;
-    ghost use Rattle.period_terms.specs.Advances.{algorithm_of};
-    ghost use Rattle.period_terms.specs.declared.signature.OfferedSignature.{OfferedSignature};
+    ghost use Rattle.period_terms.specs.{Advances.algorithm_of, declared.signature.OfferedSignature.OfferedSignature};
 
     ghost Value = { OfferedSignature };
 

@@ -2,20 +2,13 @@
 use Rattle.std.proofs.Common.{◌≡◌, ℕ, ◌+◌, List, [], ◌∷◌, ◌++◌, length, drop, refl, ap, subst, ◌∙◌, append_assoc, arith}
 use Rattle.std.proofs.lemmas.List.{append-nil}
 use Rattle.key_port.specs.Answers.{Relation, Rules}
-use Rattle.vote_terms.specs.Votes.{ReadVote}
-use Rattle.vote_terms.specs.Acceptable.{IsVerified}
-use Rattle.period_terms.specs.declared.answer.Answer.{Answer}
+use Rattle.vote_terms.specs.{Votes.ReadVote, Acceptable.IsVerified}
+use Rattle.period_terms.specs.declared.answer.{Answer.Answer, Offer.Offer, Advance.Advance, SignIn.SignIn}
+use Rattle.period_terms.specs.declared.event.{Event.TheVariants.{Offered, Advanced, SignedIn}, Via.Via}
+use Rattle.period_terms.specs.{declared.{signature.OfferedSignature.OfferedSignature, state.State.State}, Steps.step}
 use Rattle.period_terms.specs.declared.answer.Answer.TheVariants as kinds
-use Rattle.period_terms.specs.declared.answer.Offer.{Offer}
-use Rattle.period_terms.specs.declared.answer.Advance.{Advance}
-use Rattle.period_terms.specs.declared.answer.SignIn.{SignIn}
-use Rattle.period_terms.specs.declared.event.Event.TheVariants.{Offered, Advanced, SignedIn}
-use Rattle.period_terms.specs.declared.event.Via.{Via}
-use Rattle.period_terms.specs.declared.signature.OfferedSignature.{OfferedSignature}
-use Rattle.period_terms.specs.declared.state.State.{State}
 use Rattle.period_terms.specs.Offers as offers
 use Rattle.period_terms.specs.SignIns as sign_ins
-use Rattle.period_terms.specs.Steps.{step}
 use Rattle.period_laws.specs.Checked.{IsAcceptedAs}
 use Rattle.period_core.specs.Signing.{Advances}
 use Rattle.period_world.specs.declared.coming.Coming.TheVariants as variants

@@ -3,11 +3,9 @@ use Rattle.std.proofs.Common.{Result, Ok, Err, IfOk, refl}
 use Rattle.dir_bytes.specs.declared.fault.Memory.{Memory}
 use Rattle.dir_values.specs.declared.digest.Fingerprint.{Fingerprint}
 use Rattle.key_port.specs.Answers.{Relation, Rules}
-use Rattle.period_terms.specs.declared.answer.Answer.{Answer}
-use Rattle.period_terms.specs.declared.state.State.{State}
+use Rattle.period_terms.specs.declared.{answer.Answer.Answer, state.State.State}
 use Rattle.period_laws.specs.Worlds.{World}
-use Rattle.period_world.specs.Calls.{Arrival, TakesOne}
-use Rattle.period_world.specs.WorldCalls.{LeadsOn}
+use Rattle.period_world.specs.{Calls.{Arrival, TakesOne}, WorldCalls.LeadsOn}
 
 pub leads_on : (may_give : Relation) (rules : Rules) (old new : State) (coming : Arrival) (answer : Answer)
     → TakesOne may_give rules old coming answer new → LeadsOn may_give rules old coming answer new

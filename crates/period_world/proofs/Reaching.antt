@@ -2,17 +2,13 @@
 use Rattle.std.proofs.Common.{◌≡◌, Bool, true, cond, List, [], ◌∷◌, Option, Some, refl, sym, ap, ◌∙◌}
 use Rattle.dir_values.specs.declared.digest.Fingerprint.{Fingerprint}
 use Rattle.key_port.specs.Answers.{Relation, Rules}
-use Rattle.period_terms.specs.declared.answer.Answer.{Answer}
-use Rattle.period_terms.specs.declared.event.Event.{Event}
-use Rattle.period_terms.specs.declared.state.State.{State}
-use Rattle.period_terms.specs.States.{Outcome}
+use Rattle.period_terms.specs.{declared.{answer.Answer.Answer, event.Event.Event, state.State.State}, States.Outcome}
 use Rattle.period_terms.specs.Steps.{step}
 use Rattle.period_laws.specs.Worlds as w
 use Rattle.period_laws.specs.Worlds.{World, WorldEvent, At, Elsewhere, SignedDigest, may_come}
 use Rattle.period_world.specs.declared.coming.Coming.TheVariants as comings
-use Rattle.period_world.specs.Calls.{Arrival, IsEvent}
-use Rattle.period_world.specs.WorldCalls.{Call, Happening, Called, Alone, may_arrive, IsCall, called_world, LeadsTo}
-use Rattle.period_world.specs.WorldCalls.{CallsAreWorlds}
+use Rattle.period_world.specs.{Calls.{Arrival, IsEvent}, WorldCalls.{Call, Happening, Called, Alone, may_arrive}}
+use Rattle.period_world.specs.WorldCalls.{IsCall, called_world, LeadsTo, CallsAreWorlds}
 
 -- what may come may come as an event
 comes : (signed : List SignedDigest) (coming : Arrival) (event : Event) → IsEvent coming event

@@ -1,13 +1,10 @@
 -- The state in which an authority begins is a start.
 use Rattle.std.proofs.Common.{◌≡◌, ℕ, List, Result, Ok, Err, refl, IfOk}
 use Rattle.count_terms.specs.declared.newest.Newest.{Newest}
-use Rattle.dir_values.specs.declared.digest.Fingerprint.{Fingerprint}
-use Rattle.dir_values.specs.Rosters.{IsRoster}
+use Rattle.dir_values.specs.{declared.digest.Fingerprint.Fingerprint, Rosters.IsRoster}
 use Rattle.vote_schedule.specs.Schedules.{Schedule, IsSchedule}
-use Rattle.period_terms.specs.declared.state.State.{State}
-use Rattle.period_terms.specs.Histories.{IsStart}
-use Rattle.period_core.specs.declared.state.StartFault.{StartFault}
-use Rattle.period_core.specs.Starting.{Starts}
+use Rattle.period_terms.specs.{declared.state.State.State, Histories.IsStart}
+use Rattle.period_core.specs.{declared.state.StartFault.StartFault, Starting.Starts}
 
 pub starts_so : (roster : List Fingerprint) (own : Fingerprint) (newest : Newest) (schedule : Schedule) (now : ℕ)
     (result : Result State StartFault) → IsRoster roster → IsSchedule schedule

@@ -1,18 +1,14 @@
 -- A state among others takes what comes to it as it does alone.
-use Rattle.std.proofs.Common.{◌≡◌, Bool, true, false, cond, List, [], ◌∷◌, ◌++◌, Option, Some, is_some, not}
-use Rattle.std.proofs.Common.{refl, sym, ap, ◌∙◌, subst, ◌&&◌}
-use Rattle.dir_values.specs.declared.digest.Fingerprint.{Fingerprint}
-use Rattle.dir_values.specs.Digests.{same_identity}
-use Rattle.dir_values.specs.Rosters.{has_member}
+use Rattle.std.proofs.Common.{◌≡◌, Bool, true, false, cond, List, [], ◌∷◌, ◌++◌, Option, Some, is_some, not, refl, sym}
+use Rattle.std.proofs.Common.{ap, ◌∙◌, subst, ◌&&◌}
+use Rattle.dir_values.specs.{declared.digest.Fingerprint.Fingerprint, Digests.same_identity, Rosters.has_member}
 use Rattle.vote_terms.proofs.Orders.{same_one}
 use Rattle.key_port.specs.Answers.{Relation, Rules}
-use Rattle.period_terms.specs.declared.answer.Answer.{Answer}
-use Rattle.period_terms.specs.declared.state.State.{State}
+use Rattle.period_terms.specs.declared.{answer.Answer.Answer, state.State.State}
 use Rattle.period_laws.specs.Worlds.{World, SignedDigest}
-use Rattle.period_world.specs.Calls.{Arrival, TakesOne, TakesAll}
+use Rattle.period_world.specs.{Calls.{Arrival, TakesOne, TakesAll}, WorldCalls.{Call, Happening, Called, Alone, IsCall}}
+use Rattle.period_world.specs.WorldCalls.{LeadsTo, Lead, arrivals_at, answers_at, PeriodStatesTakeAll}
 use Rattle.period_world.proofs.Chains.{one_more_arrival_taken}
-use Rattle.period_world.specs.WorldCalls.{Call, Happening, Called, Alone, IsCall, LeadsTo, Lead, arrivals_at}
-use Rattle.period_world.specs.WorldCalls.{answers_at, PeriodStatesTakeAll}
 
 -- a member's state is one
 one_state : (s t : State) (state : Option State) → state ≡ Some s → state ≡ Some t → s ≡ t

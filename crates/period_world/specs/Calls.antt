@@ -2,17 +2,12 @@
 use Rattle.std.specs.Prelude.{◌≡◌, List, [], ◌∷◌}
 use Rattle.key_port.specs.Answers.{Relation, Rules}
 use Rattle.vote_terms.specs.Votes.{ReadVote}
-use Rattle.period_terms.specs.declared.answer.Answer.{Answer}
-use Rattle.period_terms.specs.declared.event.Event.{Event}
-use Rattle.period_terms.specs.declared.event.Event.TheVariants.{Offered, Advanced, SignedIn}
-use Rattle.period_terms.specs.declared.event.Signing.{Signing}
-use Rattle.period_terms.specs.declared.signature.OfferedSignature.{OfferedSignature}
-use Rattle.period_terms.specs.declared.state.State.{State}
-use Rattle.period_terms.specs.Histories.{run}
+use Rattle.period_terms.specs.declared.{answer.Answer.Answer, event.Event.{Event, TheVariants.{Offered, Advanced}}}
+use Rattle.period_terms.specs.declared.event.{Event.TheVariants.SignedIn, Signing.Signing}
+use Rattle.period_terms.specs.{declared.{signature.OfferedSignature.OfferedSignature, state.State.State}, Histories.run}
 use Rattle.period_terms.specs.Steps.{step}
 use Rattle.period_laws.specs.Checked.{IsChecked, AreChecked}
-use Rattle.period_world.specs.declared.coming.Coming.{Coming}
-use Rattle.period_world.specs.declared.coming.Coming.TheVariants.{Vote, Moment, Signature}
+use Rattle.period_world.specs.declared.coming.Coming.{Coming, TheVariants.{Vote, Moment, Signature}}
 
 -- one thing that comes to an authority, as contracts see it
 abbrev pub Arrival : Type 0

@@ -1,18 +1,15 @@
 -- Calls at the states of several authorities, one after the other (dir-spec, "Exchanging detached signatures").
 use Rattle.std.specs.Prelude.{◌≡◌, ℕ, Bool, true, List, [], ◌∷◌, ◌++◌, Option, Some, Ok, if◌then◌else◌}
-use Rattle.dir_values.specs.declared.digest.Fingerprint.{Fingerprint}
-use Rattle.dir_values.specs.Digests.{same_identity}
+use Rattle.dir_values.specs.{declared.digest.Fingerprint.Fingerprint, Digests.same_identity}
 use Rattle.key_port.specs.Answers.{Relation, Rules}
-use Rattle.period_terms.specs.declared.answer.Answer.{Answer}
-use Rattle.period_terms.specs.declared.state.State.{State}
-use Rattle.period_terms.specs.Histories.{IsStart}
+use Rattle.period_terms.specs.{declared.{answer.Answer.Answer, state.State.State}, Histories.IsStart}
 use Rattle.count_terms.specs.declared.newest.Newest.{Newest}
 use Rattle.vote_schedule.specs.Schedules.{Schedule}
 use Rattle.period_core.specs.Starting.{Starts}
-use Rattle.period_laws.specs.Worlds.{World, WorldEvent, SignedDigest, signed_by, is_among, moved_world, signed_elsewhere}
-use Rattle.period_laws.specs.Worlds.{run_world, IsWorldStart}
-use Rattle.period_world.specs.declared.coming.Coming.TheVariants.{Vote, Moment, Signature}
-use Rattle.period_world.specs.Calls.{Arrival, TakesOne, TakesAll}
+use Rattle.period_laws.specs.Worlds.{World, WorldEvent, SignedDigest, signed_by, is_among, moved_world}
+use Rattle.period_laws.specs.Worlds.{signed_elsewhere, run_world, IsWorldStart}
+use Rattle.period_world.specs.{declared.coming.Coming.TheVariants.{Vote, Moment, Signature}, Calls.{Arrival, TakesOne}}
+use Rattle.period_world.specs.Calls.{TakesAll}
 
 -- a call at the state of a member: what came, the answer, and the state after it
 pub record Call : Type 0 where

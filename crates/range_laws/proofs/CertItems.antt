@@ -1,19 +1,15 @@
 -- The items of a certificate that says what is in range may be written, but for the limits.
 use Rattle.std.proofs.Common.{◌≡◌, ℕ, true, List, [], ◌∷◌, ◌++◌, Option, Some, None, refl}
-use Rattle.std.specs.Prelude.{IfSome, codes}
-use Rattle.std.proofs.lemmas.List.Elements.{All-append}
+use Rattle.std.{proofs.lemmas.List.Elements.All-append, specs.Prelude.{IfSome, codes}}
 use Rattle.base64.specs.GeneralPurpose.{IsBytes}
 use Rattle.dir_bytes.specs.FieldTexts.{hex_text}
-use Rattle.dirdoc_grammar.specs.Writers.{is_argument}
-use Rattle.dirdoc_grammar.specs.Writing.{IsLineRest}
-use Rattle.grammar_laws.proofs.LineRests.{rest_of_argument, rest_of_nothing}
-use Rattle.grammar_laws.specs.Written.{IsItem}
+use Rattle.dirdoc_grammar.specs.{Writers.is_argument, Writing.IsLineRest}
+use Rattle.grammar_laws.{proofs.LineRests.{rest_of_argument, rest_of_nothing}, specs.Written.IsItem}
 use Rattle.frame_terms.specs.declared.keyword.Keyword.{Keyword}
 use Rattle.frame_terms.specs.declared.keyword.Keyword.TheVariants as the
 use Rattle.frame_values.specs.Items.{bare, item_if, moment_item, with_object}
 use Rattle.frame_laws.proofs.WordTexts.{word_of_identity}
-use Rattle.authority_certs.specs.Texts.{cert_items, holder_items, key_items, proof_items}
-use Rattle.authority_certs.specs.declared.cert.Cert.{Cert}
+use Rattle.authority_certs.specs.{Texts.{cert_items, holder_items, key_items, proof_items}, declared.cert.Cert.Cert}
 use Rattle.certificate_laws.specs.Again.{SaysInRange}
 use Rattle.vote_laws.proofs.MayWrite.{MayWrite, bare_may, first_may, if_may, none_may, object_may, timed_may, two_may}
 

@@ -1,40 +1,24 @@
 -- What is kept of a certificate's section says what is in range, in any kind of document that has certificates.
-use Rattle.std.proofs.Common.{◌≡◌, ℕ, true, false, List, Some, refl, sym, ap, ◌∙◌, arith}
+use Rattle.std.proofs.{Common.{◌≡◌, ℕ, true, false, List, Some, refl, sym, ap, ◌∙◌, arith}, lemmas.Bool.false≢true}
 use Rattle.std.specs.Prelude.{IfSome, option_map}
-use Rattle.std.proofs.lemmas.Bool.{false≢true}
 use Rattle.base64.specs.GeneralPurpose.{IsBytes}
 use Rattle.item_terms.specs.Items.{Item}
 use Rattle.dir_values.specs.declared.digest.Fingerprint.{Fingerprint}
-use Rattle.frame_terms.specs.declared.document.Taken.{Taken}
-use Rattle.frame_terms.specs.declared.keyword.Keyword.{Keyword}
+use Rattle.frame_terms.specs.declared.{document.Taken.Taken, keyword.Keyword.Keyword, row.Count.TheVariants.One}
+use Rattle.frame_terms.specs.{declared.row.{Count.TheVariants.Optional, Row.Row}, Keywords.same, Order.inner, Rows.row}
+use Rattle.frame_terms.specs.{Sections.row_of, Tables.Tables}
 use Rattle.frame_terms.specs.declared.keyword.Keyword.TheVariants as the
-use Rattle.frame_terms.specs.declared.row.Count.TheVariants.{One, Optional}
-use Rattle.frame_terms.specs.declared.row.Row.{Row}
-use Rattle.frame_terms.specs.Keywords.{same}
-use Rattle.frame_terms.specs.Order.{inner}
-use Rattle.frame_terms.specs.Rows.{row}
-use Rattle.frame_terms.specs.Sections.{row_of}
-use Rattle.frame_terms.specs.Tables.{Tables}
-use Rattle.frame_values.specs.Faults.{at_place}
-use Rattle.frame_values.specs.Parts.{part}
-use Rattle.frame_values.specs.Ranges.{AreTwenty}
-use Rattle.frame_values.specs.Values.{fingerprint_in, text_if}
-use Rattle.frame_values.specs.declared.found.Span.{Span}
-use Rattle.frame_values.specs.declared.values.Value.{Value}
+use Rattle.frame_values.specs.{Faults.at_place, Parts.part, Ranges.AreTwenty, Values.{fingerprint_in, text_if}}
+use Rattle.frame_values.specs.declared.{found.Span.Span, values.Value.Value}
 use Rattle.frame_values.specs.declared.values.Value.TheVariants as value
-use Rattle.frame_laws.proofs.KnownWords.{same-through}
-use Rattle.frame_laws.proofs.Words.{IsWord}
-use Rattle.authority_certs.specs.Certs.{cert_in}
-use Rattle.authority_certs.specs.Heads.{head_of, no_head}
-use Rattle.authority_certs.specs.Tables.{cert_rows, cert_value}
-use Rattle.authority_certs.specs.declared.frame.CertKind.{CertKind}
+use Rattle.frame_laws.proofs.{KnownWords.same-through, Words.IsWord}
+use Rattle.authority_certs.specs.{Certs.cert_in, Heads.{head_of, no_head}, Tables.{cert_rows, cert_value}}
+use Rattle.authority_certs.specs.declared.{frame.CertKind.CertKind, head.CertHead.CertHead}
 use Rattle.authority_certs.specs.declared.frame.CertKind.TheVariants as kind
-use Rattle.authority_certs.specs.declared.head.CertHead.{CertHead}
 use Rattle.certificate_laws.specs.Again.{SaysInRange}
-use Rattle.row_laws.proofs.Columns.{a_word, an_identity, identity_laws, last, last_laws, word_laws}
-use Rattle.row_laws.proofs.ItemKinds.{Kind, KindLaws, of_line, of_line_laws}
-use Rattle.row_laws.proofs.KindRanges.{IsNotInside, KindIs, field_is, kind_read, laws_read}
-use Rattle.row_laws.proofs.ReadBytes.{object_bytes, twenty_zeros}
+use Rattle.row_laws.proofs.{Columns.{a_word, an_identity, identity_laws, last, last_laws, word_laws}, ItemKinds.Kind}
+use Rattle.row_laws.proofs.{ItemKinds.{KindLaws, of_line, of_line_laws}, KindRanges.{IsNotInside, KindIs, field_is}}
+use Rattle.row_laws.proofs.{KindRanges.{kind_read, laws_read}, ReadBytes.{object_bytes, twenty_zeros}}
 use Rattle.row_laws.proofs.Saying.{EachStands}
 use Rattle.range_laws.proofs.CertItems.{HasBytes}
 

@@ -1,18 +1,13 @@
 -- What is read of a certificate is in range, but for the limits.
 use Rattle.std.proofs.Common.{length, refl, sym, subst}
-use Rattle.authority_certs.specs.Certs.{cert_in}
-use Rattle.authority_certs.specs.Heads.{head_with, no_head}
-use Rattle.authority_certs.specs.Reading.{max_cert, with_cert}
-use Rattle.authority_certs.specs.Tables.{cert_tables}
-use Rattle.authority_certs.specs.Texts.{cert_items}
-use Rattle.authority_certs.specs.declared.frame.CertKind.{CertKind}
+use Rattle.authority_certs.specs.{Certs.cert_in, Heads.{head_with, no_head}, Reading.{max_cert, with_cert}}
+use Rattle.authority_certs.specs.{Tables.cert_tables, Texts.cert_items, declared.frame.CertKind.CertKind}
 use Rattle.certificate_laws.specs.Again.{SaysInRange}
 use Rattle.row_laws.proofs.KindRanges.{read_is}
 use Rattle.range_laws.specs.Certificates.{CertificatesReadAreInRange, CertificatesWithinLimitsAreInRange}
-use Rattle.range_laws.specs.Certificates.{IsInRangeButForLimits}
-use Rattle.vote_laws.proofs.MayWrite.{items_writable}
-use Rattle.range_laws.proofs.CertItems.{cert_may}
+use Rattle.range_laws.{specs.Certificates.IsInRangeButForLimits, proofs.CertItems.cert_may}
 use Rattle.range_laws.proofs.CertRanges.{HaveCertificates, has_bytes, nothing_says, section_says}
+use Rattle.vote_laws.proofs.MayWrite.{items_writable}
 
 abbrev itself : CertKind → CertKind
 itself kind = kind

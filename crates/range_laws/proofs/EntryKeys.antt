@@ -1,39 +1,24 @@
 -- No two sections of a vote say one Ed25519 key.
 use Rattle.std.proofs.Common.{◌≡◌, ◌⊎◌, ℕ, Bool, true, false, List, [], ◌∷◌, ◌++◌, Option, Some, None, Ok, refl, sym}
-use Rattle.std.proofs.Common.{ap, ◌∙◌, inl, inr}
-use Rattle.std.specs.Prelude.{if◌then◌else◌}
-use Rattle.std.proofs.lemmas.Bool.{false≢true}
-use Rattle.item_terms.specs.declared.fault.DocFault.{DocFault}
-use Rattle.item_terms.specs.Items.{Contents, Item}
-use Rattle.frame_terms.specs.declared.document.Open.{Open}
-use Rattle.frame_terms.specs.declared.keyword.Keyword.{Keyword}
+use Rattle.std.{proofs.{Common.{ap, ◌∙◌, inl, inr}, lemmas.Bool.false≢true}, specs.Prelude.if◌then◌else◌}
+use Rattle.item_terms.specs.{declared.fault.DocFault.DocFault, Items.{Contents, Item}}
+use Rattle.frame_terms.specs.{declared.{document.Open.Open, keyword.Keyword.Keyword, row.Row.Row}, Documents.Document}
+use Rattle.frame_terms.specs.{Documents.{document_of, group}, Keywords.same, Order.{inner, opener}, Sections.row_of}
 use Rattle.frame_terms.specs.declared.keyword.Keyword.TheVariants as the
-use Rattle.frame_terms.specs.declared.row.Row.{Row}
-use Rattle.frame_terms.specs.Documents.{Document, document_of, group}
-use Rattle.frame_terms.specs.Keywords.{same}
-use Rattle.frame_terms.specs.Order.{inner, opener}
-use Rattle.frame_terms.specs.Sections.{row_of}
-use Rattle.frame_values.specs.Values.{item_at, own_of_value}
-use Rattle.frame_values.specs.declared.values.Value.{Value}
+use Rattle.frame_values.specs.{Values.{item_at, own_of_value}, declared.values.Value.Value}
 use Rattle.frame_values.specs.declared.values.Value.TheVariants as value
 use Rattle.frame_laws.proofs.KnownWords.{same-through}
 use Rattle.relay_entries.specs.declared.said.EdOpinion.{EdOpinion}
 use Rattle.relay_entries.specs.declared.said.EdOpinion.TheVariants as opinion
 use Rattle.relay_entries.specs.declared.said.EntryValue.TheVariants as entry_said
-use Rattle.vote_frame.specs.declared.across.Across.{Across}
-use Rattle.vote_frame.specs.Tables.{vote_tables}
-use Rattle.vote_frame.specs.declared.frame.VoteKind.{VoteKind}
-use Rattle.vote_frame.specs.declared.frame.VoteSection.{VoteSection}
+use Rattle.vote_frame.specs.declared.{across.Across.Across, frame.{VoteKind.VoteKind, VoteSection.VoteSection}}
+use Rattle.vote_frame.specs.{declared.frame.VoteValue.VoteValue, Tables.vote_tables}
 use Rattle.vote_frame.specs.declared.frame.VoteSection.TheVariants as section
-use Rattle.vote_frame.specs.declared.frame.VoteValue.{VoteValue}
 use Rattle.vote_frame.specs.declared.frame.VoteValue.TheVariants as own
 use Rattle.vote_entries.specs.Saying.{ed_in, ed_of_value}
-use Rattle.document_laws.specs.Items.{IsItemOf}
-use Rattle.document_laws.proofs.Openers.{row_of-one, row_of-same}
-use Rattle.document_laws.proofs.Rules.{Rules, holds}
-use Rattle.range_laws.proofs.EntryRoom.{VoteGroup}
-use Rattle.range_laws.proofs.Noting.{HasKey, IsKeyOf, key_noted, keys_stay}
-use Rattle.range_laws.proofs.VoteStands.{VoteTaken, only_certificates}
+use Rattle.document_laws.{specs.Items.IsItemOf, proofs.{Openers.{row_of-one, row_of-same}, Rules.{Rules, holds}}}
+use Rattle.range_laws.proofs.{EntryRoom.VoteGroup, Noting.{HasKey, IsKeyOf, key_noted, keys_stay}, VoteStands.VoteTaken}
+use Rattle.range_laws.proofs.VoteStands.{only_certificates}
 
 -- the key that a section says
 abbrev pub SaysKey : List VoteTaken → List ℕ → Type 0

@@ -1,34 +1,24 @@
 -- What the lines of bandwidths, of microdescriptors and of an Ed25519 key say is in range.
 use lib.Pointwise.{pointwise}
 use Rattle.std.proofs.Common.{◌≡◌, ℕ, Bool, true, false, List, [], ◌∷◌, length, drop, take, Option, Some, None, Result}
-use Rattle.std.proofs.Common.{Ok, refl, subst}
-use Rattle.std.specs.Prelude.{IfSome, codes, is_some, nat_eq, option_and_then, option_map, if◌then◌else◌}
-use Rattle.std.specs.List.{find}
-use Rattle.std.specs.Str.{bytes_eq}
+use Rattle.std.{proofs.Common.{Ok, refl, subst}, specs.Prelude.{IfSome, codes, is_some, nat_eq, option_and_then}}
+use Rattle.std.specs.{Prelude.{option_map, if◌then◌else◌}, List.find, Str.bytes_eq}
 use Rattle.base64.specs.GeneralPurpose.{IsBytes}
 use Rattle.dir_bytes.specs.Fields.{base64}
-use Rattle.item_terms.specs.Items.{Item}
-use Rattle.item_terms.specs.Words.{strip}
-use Rattle.dir_values.specs.Arguments.{Argument}
-use Rattle.dir_values.specs.Digests.{digest2}
-use Rattle.dir_values.specs.Numbers.{number_of}
-use Rattle.dir_values.specs.declared.digest.Digest2.{Digest2}
-use Rattle.frame_values.specs.Arguments.{arguments_of, field, front, next, others}
-use Rattle.frame_values.specs.Fields.{span_if}
+use Rattle.item_terms.specs.{Items.Item, Words.strip}
+use Rattle.dir_values.specs.{Arguments.Argument, Digests.digest2, Numbers.number_of, declared.digest.Digest2.Digest2}
+use Rattle.frame_values.specs.{Arguments.{arguments_of, field, front, next, others}, Fields.span_if}
 use Rattle.frame_values.specs.declared.found.Span.{Span}
 use Rattle.relay_entries.specs.Fields.{are_methods, bandwidth_if, ed_opinion, measured_if, this_key, with_argument}
-use Rattle.relay_entries.specs.Fields.{with_bandwidth, with_either, with_measured}
-use Rattle.relay_entries.specs.Lines.{after_sha256, bandwidths_of, ed_of, micro_of, named_digest, names_sha256}
-use Rattle.relay_entries.specs.Lines.{no_bandwidths, some_digest, with_arguments}
-use Rattle.relay_entries.specs.declared.said.Bandwidths.{Bandwidths}
-use Rattle.relay_entries.specs.declared.said.EdOpinion.{EdOpinion}
+use Rattle.relay_entries.specs.{Fields.{with_bandwidth, with_either, with_measured}, Lines.after_sha256}
+use Rattle.relay_entries.specs.Lines.{bandwidths_of, ed_of, micro_of, named_digest, names_sha256, no_bandwidths}
+use Rattle.relay_entries.specs.{Lines.{some_digest, with_arguments}, declared.said.Bandwidths.Bandwidths}
+use Rattle.relay_entries.specs.declared.said.{EdOpinion.EdOpinion, MicroLine.MicroLine}
 use Rattle.relay_entries.specs.declared.said.EdOpinion.TheVariants as opinion
-use Rattle.relay_entries.specs.declared.said.MicroLine.{MicroLine}
 use Rattle.group_laws.specs.Ranges.{AreBandwidthsInRange, AreThirtyTwo, IsOpinionInRange}
-use Rattle.row_laws.proofs.ItemArguments.{AreFound, IsSound, are_found, others_found}
-use Rattle.row_laws.proofs.ReadBytes.{base64_bytes, bytes_drop}
-use Rattle.row_laws.proofs.ReadSteps.{ReadAs, any_reads, field_reads, next_reads, number_within, found_bytes}
-use Rattle.row_laws.proofs.ReadSteps.{front_bytes}
+use Rattle.row_laws.proofs.{ItemArguments.{AreFound, IsSound, are_found, others_found}, ReadBytes.base64_bytes}
+use Rattle.row_laws.proofs.{ReadBytes.bytes_drop, ReadSteps.{ReadAs, any_reads, field_reads, next_reads, number_within}}
+use Rattle.row_laws.proofs.ReadSteps.{found_bytes, front_bytes}
 
 -- ---- bandwidths
 

@@ -1,22 +1,14 @@
 -- A vote has no more entries than it may.
 use Rattle.std.proofs.Common.{◌≡◌, ℕ, ◌+◌, ◌≤◌, true, List, [], ◌∷◌, Option, Some, None, Ok, refl, ap, arith}
-use Rattle.item_terms.specs.declared.fault.DocFault.{DocFault}
-use Rattle.item_terms.specs.Items.{Contents, Item}
-use Rattle.frame_terms.specs.declared.document.Group.{Group}
-use Rattle.frame_terms.specs.declared.document.Open.{Open}
-use Rattle.frame_terms.specs.Documents.{Document, document_of}
-use Rattle.frame_terms.specs.Keywords.{same}
-use Rattle.frame_terms.specs.Order.{inner, opener}
+use Rattle.item_terms.specs.{declared.fault.DocFault.DocFault, Items.{Contents, Item}}
+use Rattle.frame_terms.specs.{declared.document.{Group.Group, Open.Open}, Documents.{Document, document_of}}
+use Rattle.frame_terms.specs.{Keywords.same, Order.{inner, opener}}
 use Rattle.frame_values.specs.declared.values.Value.{Value}
-use Rattle.vote_frame.specs.declared.across.Across.{Across}
+use Rattle.vote_frame.specs.declared.{across.Across.Across, frame.{VoteSection.VoteSection, VoteValue.VoteValue}}
 use Rattle.vote_frame.specs.Tables.{vote_tables}
-use Rattle.vote_frame.specs.declared.frame.VoteSection.{VoteSection}
 use Rattle.vote_frame.specs.declared.frame.VoteSection.TheVariants as section
-use Rattle.vote_frame.specs.declared.frame.VoteValue.{VoteValue}
-use Rattle.document_laws.specs.Items.{IsItemOf}
-use Rattle.document_laws.proofs.Rules.{Rules, holds}
-use Rattle.range_laws.proofs.Noting.{counted, opener_relay}
-use Rattle.range_laws.proofs.VoteStands.{VoteTaken, only_certificates}
+use Rattle.document_laws.{specs.Items.IsItemOf, proofs.Rules.{Rules, holds}}
+use Rattle.range_laws.proofs.{Noting.{counted, opener_relay}, VoteStands.{VoteTaken, only_certificates}}
 
 abbrev pub VoteGroup : Type 0
 VoteGroup = Group VoteSection (Value VoteValue)

@@ -1,41 +1,26 @@
 -- What the items of a vote's entry say is in range, by their kinds.
-use Rattle.std.proofs.Common.{◌≡◌, ℕ, true, List, Result, Ok, Err, refl, ap, ◌∙◌}
-use Rattle.std.specs.Prelude.{All}
+use Rattle.std.{proofs.Common.{◌≡◌, ℕ, true, List, Result, Ok, Err, refl, ap, ◌∙◌}, specs.Prelude.All}
 use Rattle.base64.specs.GeneralPurpose.{IsBytes}
-use Rattle.item_terms.specs.Items.{Item}
-use Rattle.item_terms.specs.Words.{words_of}
+use Rattle.item_terms.specs.{Items.Item, Words.words_of}
 use Rattle.dirdoc_grammar.specs.Writing.{IsLineRest}
-use Rattle.frame_values.specs.Arguments.{next}
-use Rattle.frame_values.specs.Faults.{at_place, unless_fault}
-use Rattle.frame_values.specs.Lines.{flags_of, rest_of}
-use Rattle.frame_values.specs.Parts.{part}
-use Rattle.frame_values.specs.declared.found.Span.{Span}
-use Rattle.frame_values.specs.declared.values.Value.{Value}
+use Rattle.frame_values.specs.{Arguments.next, Faults.{at_place, unless_fault}, Lines.{flags_of, rest_of}, Parts.part}
+use Rattle.frame_values.specs.declared.{found.Span.Span, values.Value.Value}
 use Rattle.frame_values.specs.declared.values.Value.TheVariants as value
-use Rattle.relay_entries.specs.Lines.{address_of, bandwidths_of, ed_of, entry_value, lifted_entry_value, micro_of, relay_of}
-use Rattle.relay_entries.specs.declared.said.Bandwidths.{Bandwidths}
-use Rattle.relay_entries.specs.declared.said.EdOpinion.{EdOpinion}
-use Rattle.relay_entries.specs.declared.said.EntryKind.{EntryKind}
-use Rattle.relay_entries.specs.declared.said.EntryKind.TheVariants as entry
-use Rattle.relay_entries.specs.declared.said.EntryValue.{EntryValue}
-use Rattle.relay_entries.specs.declared.said.EntryValue.TheVariants as entry_said
-use Rattle.relay_entries.specs.declared.said.MicroLine.{MicroLine}
+use Rattle.relay_entries.specs.Lines.{address_of, bandwidths_of, ed_of, entry_value, lifted_entry_value, micro_of}
+use Rattle.relay_entries.specs.{Lines.relay_of, declared.said.{Bandwidths.Bandwidths, EdOpinion.EdOpinion}}
+use Rattle.relay_entries.specs.declared.said.{EntryKind.EntryKind, EntryValue.EntryValue, MicroLine.MicroLine}
 use Rattle.relay_entries.specs.declared.said.RelayLine.{RelayLine}
+use Rattle.relay_entries.specs.declared.said.EntryKind.TheVariants as entry
+use Rattle.relay_entries.specs.declared.said.EntryValue.TheVariants as entry_said
 use Rattle.group_laws.specs.Ranges.{AreBandwidthsInRange, IsOpinionInRange}
-use Rattle.vote_frame.specs.Tables.{over_limit}
-use Rattle.vote_frame.specs.declared.frame.VoteKind.{VoteKind}
+use Rattle.vote_frame.specs.{Tables.over_limit, declared.frame.{VoteKind.VoteKind, VoteValue.VoteValue}}
 use Rattle.vote_frame.specs.declared.frame.VoteKind.TheVariants as kind
-use Rattle.vote_frame.specs.declared.frame.VoteValue.{VoteValue}
 use Rattle.vote_frame.specs.declared.frame.VoteValue.TheVariants as own
 use Rattle.vote_laws.proofs.Heard.{is_quiet, kinds_pass}
-use Rattle.row_laws.proofs.ItemArguments.{IsSound}
-use Rattle.row_laws.proofs.KindRanges.{kind_unless}
-use Rattle.row_laws.proofs.ReadSteps.{ReadAs}
-use Rattle.range_laws.proofs.EntryReads.{IsMicro, bandwidths_read, ed_reads, micro_reads}
-use Rattle.range_laws.proofs.LineReads.{rest_read}
-use Rattle.range_laws.proofs.ReadNames.{IsName}
-use Rattle.range_laws.proofs.RelayReads.{AreNamesAt, IsAddressAt, IsLine, address_reads, flags_read, relay_reads}
-use Rattle.range_laws.proofs.VoteReads.{VoteIs, VoteSays, random_is, says_so}
+use Rattle.row_laws.proofs.{ItemArguments.IsSound, KindRanges.kind_unless, ReadSteps.ReadAs}
+use Rattle.range_laws.proofs.{EntryReads.{IsMicro, bandwidths_read, ed_reads, micro_reads}, LineReads.rest_read}
+use Rattle.range_laws.proofs.{ReadNames.IsName, RelayReads.{AreNamesAt, IsAddressAt, IsLine, address_reads, flags_read}}
+use Rattle.range_laws.proofs.{RelayReads.relay_reads, VoteReads.{VoteIs, VoteSays, random_is, says_so}}
 
 -- ---- what an entry says, among what a vote says
 

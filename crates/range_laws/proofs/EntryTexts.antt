@@ -1,31 +1,27 @@
 -- The items of entries that say what is in range may be written, but for the limits.
 use Rattle.std.proofs.Common.{ℕ, ◌/◌, ◌%◌, List, [], ◌∷◌, ◌++◌, Option, Some, None, refl, sym, subst}
-use Rattle.std.specs.Prelude.{All, IfSome, codes, decimal, option_map}
-use Rattle.std.proofs.lemmas.List.Elements.{All-append, All-cons, All-head, All-nil, All-tail}
+use Rattle.std.{proofs.lemmas.List.Elements.{All-append, All-cons, All-head, All-nil, All-tail}, specs.Prelude.All}
+use Rattle.std.specs.Prelude.{IfSome, codes, decimal, option_map}
 use Rattle.dir_bytes.specs.FieldTexts.{address_text, base64_text, clock_text, date_text}
 use Rattle.dirdoc_grammar.specs.Writing.{IsLineRest}
 use Rattle.grammar_laws.proofs.LineRests.{rest_of_argument}
 use Rattle.dir_values.specs.FlagSets.{set_text}
 use Rattle.frame_terms.specs.declared.keyword.Keyword.TheVariants as the
-use Rattle.frame_values.specs.Items.{bare, item_if}
-use Rattle.frame_values.specs.Parts.{moment_of}
+use Rattle.frame_values.specs.{Items.{bare, item_if}, Parts.moment_of}
 use Rattle.frame_laws.proofs.WordTexts.{AreWords, IsWord, bytes_of, two_words, word_of_address, word_of_clock}
 use Rattle.frame_laws.proofs.WordTexts.{word_of_date, word_of_nickname, word_of_number, words_of_flags}
 use Rattle.value_laws.proofs.LineWords.{rest_of_words}
 use Rattle.relay_entries.specs.Texts.{bandwidths_text, ed_text, methods_text, number_word}
-use Rattle.relay_entries.specs.declared.said.Bandwidths.{Bandwidths}
-use Rattle.relay_entries.specs.declared.said.EdOpinion.{EdOpinion}
+use Rattle.relay_entries.specs.declared.said.{Bandwidths.Bandwidths, EdOpinion.EdOpinion}
 use Rattle.relay_entries.specs.declared.said.EdOpinion.TheVariants as opinion
-use Rattle.group_laws.specs.Ranges.{IsAddressInRange, IsOpinionInRange}
-use Rattle.group_laws.proofs.WrittenMethods.{word_of_methods}
-use Rattle.group_laws.proofs.WrittenMicros.{word_of_thirty_two}
-use Rattle.group_laws.proofs.WrittenRelays.{relay_shape, word_of_twenty, words_of_relay}
-use Rattle.vote_terms.specs.declared.entry.EntryFacts.{EntryFacts}
-use Rattle.vote_terms.specs.declared.entry.MicroFacts.{MicroFacts}
+use Rattle.group_laws.{specs.Ranges.{IsAddressInRange, IsOpinionInRange}, proofs.WrittenMethods.word_of_methods}
+use Rattle.group_laws.proofs.{WrittenMicros.word_of_thirty_two, WrittenRelays.{relay_shape, word_of_twenty}}
+use Rattle.group_laws.proofs.WrittenRelays.{words_of_relay}
+use Rattle.vote_terms.specs.declared.entry.{EntryFacts.EntryFacts, MicroFacts.MicroFacts}
 use Rattle.vote_text.specs.Entries.{entries_items, entry_items, flag_items, items_each, line_of, micro_items}
 use Rattle.vote_text.specs.Entries.{micro_line, relay_items}
-use Rattle.vote_laws.specs.Again.{AreEntryFlags, IsEntryInRange, IsMicroInRange}
-use Rattle.vote_laws.proofs.BareRows.{IsBare, if_bare, once_bare, one_bare}
+use Rattle.vote_laws.{specs.Again.{AreEntryFlags, IsEntryInRange, IsMicroInRange}, proofs.BareRows.{IsBare, if_bare}}
+use Rattle.vote_laws.proofs.BareRows.{once_bare, one_bare}
 
 -- the texts of an entry that are rests of lines are such
 pub record HasRests (entry : EntryFacts) : Type 0 where

@@ -1,26 +1,16 @@
 -- What is kept of a vote's entries says what is in range.
-use Rattle.std.proofs.Common.{◌≡◌, ℕ, suc, ◌≤◌, Bool, true, false, List, [], ◌∷◌, ◌++◌, length, map, Option, Some}
-use Rattle.std.proofs.Common.{None, refl, ap, arith}
+use Rattle.std.proofs.Common.{◌≡◌, ℕ, suc, ◌≤◌, Bool, true, false, List, [], ◌∷◌, ◌++◌, length, map, Option, Some, None}
+use Rattle.std.proofs.{Common.{refl, ap, arith}, lemmas.List.Elements.{All-cons, All-map, All-nil, All-push}}
+use Rattle.std.proofs.lemmas.List.{Quantifiers.all_pairs_push, Splits.length-slice_split, Sums.AllPass-from_list_all}
 use Rattle.std.specs.Prelude.{All, AllPairs, IfSome, unwrap_or, if◌then◌else◌}
-use Rattle.std.proofs.lemmas.List.Elements.{All-cons, All-map, All-nil, All-push}
-use Rattle.std.proofs.lemmas.List.Quantifiers.{all_pairs_push}
-use Rattle.std.proofs.lemmas.List.Splits.{length-slice_split}
-use Rattle.std.proofs.lemmas.List.Sums.{AllPass-from_list_all}
 use Rattle.base64.specs.GeneralPurpose.{IsBytes}
 use Rattle.item_terms.specs.Words.{words_of}
 use Rattle.dirdoc_grammar.specs.Writing.{IsLineRest}
-use Rattle.dir_values.specs.Digests.{identity_below}
-use Rattle.dir_values.specs.Numbers.{number_in, number_of}
-use Rattle.dir_values.specs.declared.digest.Digest2.{Digest2}
+use Rattle.dir_values.specs.{Digests.identity_below, Numbers.{number_in, number_of}, declared.digest.Digest2.Digest2}
 use Rattle.dir_values.proofs.Flags.{Ascend-as_set}
-use Rattle.frame_terms.specs.Keywords.{same}
-use Rattle.frame_terms.specs.Rows.{row}
-use Rattle.frame_terms.specs.Sections.{row_of}
+use Rattle.frame_terms.specs.{Keywords.same, Rows.row, Sections.row_of, declared.row.Count.TheVariants.Many}
 use Rattle.frame_terms.specs.declared.keyword.Keyword.TheVariants as the
-use Rattle.frame_terms.specs.declared.row.Count.TheVariants.{Many}
-use Rattle.frame_values.specs.Parts.{part}
-use Rattle.frame_values.specs.Values.{item_at, text_if, text_in, text_of_value}
-use Rattle.frame_values.specs.declared.found.Span.{Span}
+use Rattle.frame_values.specs.{Parts.part, Values.{item_at, text_if, text_in, text_of_value}, declared.found.Span.Span}
 use Rattle.frame_values.specs.declared.values.Value.{Value}
 use Rattle.frame_values.specs.declared.values.Value.TheVariants as value
 use Rattle.list_values.specs.Parts.{is_comma, parts_of}
@@ -28,27 +18,19 @@ use Rattle.relay_entries.specs.Fields.{methods_in}
 use Rattle.relay_entries.specs.declared.said.EntryKind.TheVariants as entry
 use Rattle.relay_entries.specs.declared.said.EntryValue.TheVariants as entry_said
 use Rattle.group_laws.specs.Ranges.{AreBandwidthsInRange, AreMethodsInRange, IsAddressInRange, IsOpinionInRange}
-use Rattle.vote_frame.specs.Tables.{vote_tables}
+use Rattle.vote_frame.specs.{Tables.vote_tables, declared.frame.VoteValue.VoteValue}
 use Rattle.vote_frame.specs.declared.frame.VoteKind.TheVariants as kind
 use Rattle.vote_frame.specs.declared.frame.VoteSection.TheVariants as section
-use Rattle.vote_frame.specs.declared.frame.VoteValue.{VoteValue}
 use Rattle.vote_frame.specs.declared.frame.VoteValue.TheVariants as own
-use Rattle.vote_entries.specs.Entries.{entry_in, micro_in}
-use Rattle.vote_entries.specs.Kept.{KeptEntry, entry_of, is_after, with_entry}
-use Rattle.vote_entries.specs.Saying.{addresses_in, bandwidths_in, ed_in, micro_if}
-use Rattle.vote_entries.specs.Saying.{micro_with, micros_in, onto_if, relay_in}
-use Rattle.vote_entries.specs.declared.row.KeptMicro.{KeptMicro}
-use Rattle.vote_laws.specs.Again.{IsEntryInRange, IsMicroInRange}
+use Rattle.vote_entries.specs.{Entries.{entry_in, micro_in}, Kept.{KeptEntry, entry_of, is_after, with_entry}}
+use Rattle.vote_entries.specs.Saying.{addresses_in, bandwidths_in, ed_in, micro_if, micro_with, micros_in, onto_if}
+use Rattle.vote_entries.specs.{Saying.relay_in, declared.row.KeptMicro.KeptMicro}
+use Rattle.vote_laws.{specs.Again.{IsEntryInRange, IsMicroInRange}, proofs.FlagSets.All-as_set}
 use Rattle.document_laws.specs.Order.{BeginsWithOpener}
 use Rattle.row_laws.proofs.ReadSteps.{number_within}
-use Rattle.range_laws.proofs.EntryReads.{HasDigest}
-use Rattle.range_laws.proofs.EntrySays.{AreNames, MicroIs, address_is, entry_flags_are, entry_rests_are, micro_says}
-use Rattle.range_laws.proofs.EntrySays.{opinion_is, relay_is, widths_are}
-use Rattle.range_laws.proofs.EntryTexts.{HasRests}
-use Rattle.vote_laws.proofs.FlagSets.{All-as_set}
-use Rattle.range_laws.proofs.ReadNames.{IsName}
-use Rattle.range_laws.proofs.RelayReads.{IsLine}
-use Rattle.range_laws.proofs.VoteReads.{says_so}
+use Rattle.range_laws.proofs.{EntryReads.HasDigest, EntrySays.{AreNames, MicroIs, address_is, entry_flags_are}}
+use Rattle.range_laws.proofs.EntrySays.{entry_rests_are, micro_says, opinion_is, relay_is, widths_are}
+use Rattle.range_laws.proofs.{EntryTexts.HasRests, ReadNames.IsName, RelayReads.IsLine, VoteReads.says_so}
 use Rattle.range_laws.proofs.VoteStands.{EachVoteStands, IsReadSection, VoteTaken, any_says, kept_is, opener_there}
 use Rattle.range_laws.proofs.VoteStands.{stands_for, text_is}
 

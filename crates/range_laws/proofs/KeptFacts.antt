@@ -1,38 +1,26 @@
 -- What is kept of a vote says what is in range, and its items may be written.
-use Rattle.std.proofs.Common.{ℕ, List, map, Option, Some, None, arith}
+use Rattle.std.proofs.{Common.{ℕ, List, map, Option, Some, None, arith}, lemmas.List.Elements.{All-map, All-weaker}}
 use Rattle.std.specs.Prelude.{All, IfSome, option_map}
-use Rattle.std.proofs.lemmas.List.Elements.{All-map, All-weaker}
 use Rattle.base64.specs.GeneralPurpose.{IsBytes}
 use Rattle.item_terms.specs.Words.{words_of}
-use Rattle.dir_values.specs.FlagSets.{as_set}
-use Rattle.dir_values.specs.Numbers.{number_in, numbers_in}
-use Rattle.dir_values.proofs.Flags.{Ascend-as_set}
+use Rattle.dir_values.{specs.{FlagSets.as_set, Numbers.{number_in, numbers_in}}, proofs.Flags.Ascend-as_set}
 use Rattle.grammar_laws.specs.Written.{IsItem}
-use Rattle.frame_values.specs.Parts.{part}
-use Rattle.frame_values.specs.declared.found.Span.{Span}
+use Rattle.frame_values.specs.{Parts.part, declared.found.Span.Span}
 use Rattle.value_laws.specs.Ranges.{AreProtocolsInRange, AreVersionsInRange}
 use Rattle.value_groups.specs.Listed.{params_in, protocols_in, versions_in}
 use Rattle.certificate_laws.specs.Again.{SaysInRange}
-use Rattle.vote_terms.specs.declared.facts.VoteFacts.{VoteFacts}
+use Rattle.vote_terms.specs.{declared.{facts.VoteFacts.VoteFacts, list_lines.ListSpans.ListSpans}, ListLines.vote_lists}
 use Rattle.vote_text.specs.Texts.{vote_items}
 use Rattle.vote_entries.specs.Entries.{entry_in}
-use Rattle.vote_doc.specs.Facts.{facts_of}
-use Rattle.vote_terms.specs.ListLines.{vote_lists}
-use Rattle.vote_doc.specs.declared.kept.Kept.{Kept}
-use Rattle.vote_terms.specs.declared.list_lines.ListSpans.{ListSpans}
+use Rattle.vote_doc.specs.{Facts.facts_of, declared.kept.Kept.Kept}
 use Rattle.vote_laws.specs.Again.{AreEntriesInRange, AreFlags, AreListsInRange, AreMethods, AreVoteParams}
-use Rattle.vote_laws.specs.Again.{HasValuesInRange, IsSignatureInRange}
+use Rattle.vote_laws.{specs.Again.{HasValuesInRange, IsSignatureInRange}, proofs.FlagSets.All-as_set}
 use Rattle.row_laws.proofs.ReadBytes.{object_bytes}
-use Rattle.range_laws.specs.Votes.{IsInRangeButForLimits}
-use Rattle.range_laws.proofs.CertRanges.{has_bytes}
+use Rattle.range_laws.{specs.Votes.IsInRangeButForLimits, proofs.{CertRanges.has_bytes, KeptEntries.{AreKept, IsKept}}}
+use Rattle.range_laws.proofs.{KeptEntries.{count_map, numbers_small}, KeptHeads.{AuthorityOf, HeadIs}}
+use Rattle.range_laws.proofs.{ReadLists.{params_ranged, protocols_ranged, versions_ranged}, ReadNames.IsName}
+use Rattle.range_laws.proofs.{ReadNames.count_of_set, VoteReads.{AreFew, AreKnown}, VoteTexts.vote_may}
 use Rattle.range_laws.proofs.EntryTexts as entry
-use Rattle.range_laws.proofs.KeptEntries.{AreKept, IsKept, count_map, numbers_small}
-use Rattle.range_laws.proofs.KeptHeads.{AuthorityOf, HeadIs}
-use Rattle.range_laws.proofs.ReadLists.{params_ranged, protocols_ranged, versions_ranged}
-use Rattle.vote_laws.proofs.FlagSets.{All-as_set}
-use Rattle.range_laws.proofs.ReadNames.{IsName, count_of_set}
-use Rattle.range_laws.proofs.VoteReads.{AreFew, AreKnown}
-use Rattle.range_laws.proofs.VoteTexts.{vote_may}
 
 -- ---- what a vote says of which this was kept
 

@@ -1,52 +1,36 @@
 -- What is kept of a vote's sections that are no entries says what is in range.
 use Rattle.std.proofs.Common.{◌≡◌, ◌⊎◌, ℕ, ◌≤◌, List, [], ◌∷◌, map, Option, Some, refl, arith, inl, inr}
-use Rattle.std.specs.Prelude.{IfSome, option_map}
-use Rattle.std.proofs.lemmas.List.Elements.{All-nil}
+use Rattle.std.{proofs.lemmas.List.Elements.All-nil, specs.Prelude.{IfSome, option_map}}
 use Rattle.base64.specs.GeneralPurpose.{IsBytes}
 use Rattle.dirdoc_grammar.specs.Writing.{IsLineRest}
 use Rattle.dir_values.proofs.Orders.{AllPairs-nil}
-use Rattle.frame_terms.specs.Documents.{group}
-use Rattle.frame_terms.specs.Keywords.{same}
-use Rattle.frame_terms.specs.Rows.{row}
-use Rattle.frame_terms.specs.Sections.{row_of}
-use Rattle.frame_terms.specs.declared.document.Group.{Group}
-use Rattle.frame_terms.specs.declared.keyword.Keyword.TheVariants as the
+use Rattle.frame_terms.specs.{Documents.group, Keywords.same, Rows.row, Sections.row_of, declared.document.Group.Group}
 use Rattle.frame_terms.specs.declared.row.Count.TheVariants.{Optional}
-use Rattle.frame_values.specs.Parts.{part}
-use Rattle.frame_values.specs.Values.{item_at, text_if, text_in}
-use Rattle.frame_values.specs.declared.found.DirSource.{DirSource}
-use Rattle.frame_values.specs.declared.found.Span.{Span}
-use Rattle.frame_values.specs.declared.values.Value.{Value}
+use Rattle.frame_terms.specs.declared.keyword.Keyword.TheVariants as the
+use Rattle.frame_values.specs.{Parts.part, Values.{item_at, text_if, text_in}, declared.found.DirSource.DirSource}
+use Rattle.frame_values.specs.declared.{found.Span.Span, values.Value.Value}
 use Rattle.frame_laws.proofs.Both.{both_hold}
-use Rattle.value_groups.specs.declared.line.RandomLine.{RandomLine}
+use Rattle.value_groups.specs.declared.{line.RandomLine.RandomLine, value.SharedRandom.SharedRandom}
 use Rattle.value_groups.specs.declared.line.RandomLine.TheVariants as line
-use Rattle.value_groups.specs.declared.value.SharedRandom.{SharedRandom}
 use Rattle.group_laws.specs.LineAgain.{IsRandomInRange}
 use Rattle.authority_certs.specs.Certs.{cert_in}
 use Rattle.certificate_laws.specs.Again.{SaysInRange}
-use Rattle.vote_frame.specs.Across.{keyword_of}
-use Rattle.vote_frame.specs.Tables.{vote_tables}
-use Rattle.vote_frame.specs.declared.frame.VoteKind.TheVariants as kind
-use Rattle.vote_frame.specs.declared.frame.VoteSection.{VoteSection}
-use Rattle.vote_frame.specs.declared.frame.VoteSection.TheVariants as section
+use Rattle.vote_frame.specs.{Across.keyword_of, Tables.vote_tables, declared.frame.VoteSection.VoteSection}
 use Rattle.vote_frame.specs.declared.frame.VoteValue.{VoteValue}
-use Rattle.vote_doc.specs.Heads.{no_head, with_authority, with_preamble}
-use Rattle.vote_doc.specs.Kept.{kept_with, none_kept}
-use Rattle.vote_doc.specs.Saying.{delays_in, random_in, signature_in, source_in}
-use Rattle.vote_doc.specs.declared.head.Head.{Head}
+use Rattle.vote_frame.specs.declared.frame.VoteKind.TheVariants as kind
+use Rattle.vote_frame.specs.declared.frame.VoteSection.TheVariants as section
+use Rattle.vote_doc.specs.{Heads.{no_head, with_authority, with_preamble}, Kept.{kept_with, none_kept}}
+use Rattle.vote_doc.specs.{Saying.{delays_in, random_in, signature_in, source_in}, declared.head.Head.Head}
 use Rattle.vote_doc.specs.declared.kept.Kept.{Kept}
 use Rattle.vote_laws.proofs.BareRows.{AreRests}
 use Rattle.document_laws.specs.Order.{BeginsWithOpener}
 use Rattle.row_laws.proofs.ReadBytes.{twenty_zeros}
-use Rattle.range_laws.proofs.CertRanges.{HaveCertificates, nothing_says, section_says}
-use Rattle.range_laws.proofs.KeptEntries.{AreKept, IsKept, KeptBelow, kept_more}
-use Rattle.range_laws.proofs.LineReads.{AreDelays, IsSigned, IsSourceIn}
-use Rattle.range_laws.proofs.RandomReads.{either_ranged, random_ranged}
-use Rattle.range_laws.proofs.ReadNames.{IsName}
-use Rattle.range_laws.proofs.VoteReads.{AreFew, AreKnown, delays_are, flags_are, methods_are, params_are, random_is}
-use Rattle.range_laws.proofs.VoteReads.{rests_are, signature_is, source_is}
-use Rattle.range_laws.proofs.VoteStands.{EachVoteStands, IsReadSection, VoteTaken, kept_is, only_certificates}
-use Rattle.range_laws.proofs.VoteStands.{opener_there, text_is}
+use Rattle.range_laws.proofs.{CertRanges.{HaveCertificates, nothing_says, section_says}, KeptEntries.{AreKept, IsKept}}
+use Rattle.range_laws.proofs.{KeptEntries.{KeptBelow, kept_more}, LineReads.{AreDelays, IsSigned, IsSourceIn}}
+use Rattle.range_laws.proofs.{RandomReads.{either_ranged, random_ranged}, ReadNames.IsName, VoteReads.AreFew}
+use Rattle.range_laws.proofs.VoteReads.{AreKnown, delays_are, flags_are, methods_are, params_are, random_is, rests_are}
+use Rattle.range_laws.proofs.{VoteReads.{signature_is, source_is}, VoteStands.{EachVoteStands, IsReadSection}}
+use Rattle.range_laws.proofs.VoteStands.{VoteTaken, kept_is, only_certificates, opener_there, text_is}
 
 -- ---- what is kept
 

@@ -1,19 +1,15 @@
 -- Of a vote's entries no more are kept than it may have, and no two of them say one Ed25519 key.
 use Rattle.std.proofs.Common.{◌≡◌, ℕ, ◌+◌, ◌≤◌, Bool, true, false, List, [], ◌∷◌, ◌++◌, length, arith, length-append}
-use Rattle.std.specs.Prelude.{All, AllPairs, if◌then◌else◌}
-use Rattle.std.specs.List.{fold}
-use Rattle.std.proofs.lemmas.List.Elements.{All-nil, All-push, All-weaker}
-use Rattle.std.proofs.lemmas.List.Quantifiers.{all_pairs_push}
+use Rattle.std.proofs.lemmas.List.{Elements.{All-nil, All-push, All-weaker}, Quantifiers.all_pairs_push}
+use Rattle.std.specs.{Prelude.{All, AllPairs, if◌then◌else◌}, List.fold}
 use Rattle.dir_values.proofs.Orders.{AllPairs-nil}
 use Rattle.frame_terms.specs.Documents.{group}
 use Rattle.relay_entries.specs.declared.said.EdOpinion.TheVariants as opinion
 use Rattle.vote_frame.specs.declared.frame.VoteSection.{VoteSection}
 use Rattle.vote_frame.specs.declared.frame.VoteSection.TheVariants as section
 use Rattle.vote_entries.specs.Kept.{KeptEntry, entry_of, is_after, with_entry}
-use Rattle.vote_doc.specs.Kept.{kept_with}
-use Rattle.vote_doc.specs.declared.kept.Kept.{Kept}
-use Rattle.range_laws.proofs.EntryKeys.{AreApart, NoneSays}
-use Rattle.range_laws.proofs.EntryRoom.{VoteGroup, entries_among}
+use Rattle.vote_doc.specs.{Kept.kept_with, declared.kept.Kept.Kept}
+use Rattle.range_laws.proofs.{EntryKeys.{AreApart, NoneSays}, EntryRoom.{VoteGroup, entries_among}}
 use Rattle.range_laws.proofs.VoteStands.{VoteTaken}
 
 -- no key is that of both

@@ -1,42 +1,26 @@
 -- What is read of lines that several kinds of document have is in range, and what items say of such kinds.
 use Rattle.std.proofs.Common.{◌≡◌, ℕ, ◌+◌, ◌<◌, ◌≤◌, ◌^◌, Bool, true, false, List, length, Option, None, Result, Ok}
-use Rattle.std.proofs.Common.{Err, refl, sym, ap, subst, ◌∙◌, arith}
-use Rattle.std.specs.Prelude.{codes, nat_lt, if◌then◌else◌}
-use Rattle.std.proofs.lemmas.Bool.{ltb-false}
+use Rattle.std.{proofs.{Common.{Err, refl, sym, ap, subst, ◌∙◌, arith}, lemmas.Bool.ltb-false}, specs.Prelude.codes}
+use Rattle.std.specs.Prelude.{nat_lt, if◌then◌else◌}
 use Rattle.dir_bytes.specs.Fields.{address}
-use Rattle.item_terms.specs.Items.{Item}
-use Rattle.item_terms.specs.Words.{words_of}
-use Rattle.dirdoc_grammar.specs.Writers.{is_argument}
-use Rattle.dirdoc_grammar.specs.Writing.{IsLineRest}
-use Rattle.dir_values.specs.Digests.{fingerprint, key_digest}
-use Rattle.dir_values.specs.Names.{is_nickname}
-use Rattle.dir_values.specs.Numbers.{number_of, port_of}
-use Rattle.dir_values.specs.declared.algorithm.Algorithm.{Algorithm}
-use Rattle.dir_values.specs.declared.digest.Digest1.{Digest1}
-use Rattle.dir_values.specs.declared.digest.Fingerprint.{Fingerprint}
-use Rattle.frame_terms.specs.Rows.{limit_number}
-use Rattle.frame_terms.specs.declared.fault.FrameFault.{FrameFault}
-use Rattle.frame_terms.specs.declared.fault.FrameReason.TheVariants.{TooMany}
-use Rattle.frame_terms.specs.declared.row.Limit.{Limit}
-use Rattle.frame_values.specs.Arguments.{Argument, arguments_of, field, front, next, others}
-use Rattle.frame_values.specs.Faults.{too_many}
-use Rattle.frame_values.specs.Fields.{is_there, span_if}
-use Rattle.frame_values.specs.Lines.{delays_of, rest_of, rest_unless, source_of}
-use Rattle.frame_values.specs.Parts.{part}
-use Rattle.frame_values.specs.Ranges.{AreTwenty}
-use Rattle.frame_values.specs.Signatures.{after_algorithm, algorithm_if, has_words, is_space, object_of, signature_of}
-use Rattle.frame_values.specs.Signatures.{signed_by}
-use Rattle.frame_values.specs.declared.found.DirSource.{DirSource}
-use Rattle.frame_values.specs.declared.found.Span.{Span}
-use Rattle.frame_values.specs.declared.found.VoteSignature.{VoteSignature}
+use Rattle.item_terms.specs.{Items.Item, Words.words_of}
+use Rattle.dirdoc_grammar.specs.{Writers.is_argument, Writing.IsLineRest}
+use Rattle.dir_values.specs.{Digests.{fingerprint, key_digest}, Names.is_nickname, Numbers.{number_of, port_of}}
+use Rattle.dir_values.specs.declared.{algorithm.Algorithm.Algorithm, digest.{Digest1.Digest1, Fingerprint.Fingerprint}}
+use Rattle.frame_terms.specs.{Rows.limit_number, declared.fault.FrameFault.FrameFault}
+use Rattle.frame_terms.specs.declared.{fault.FrameReason.TheVariants.TooMany, row.Limit.Limit}
+use Rattle.frame_values.specs.{Arguments.{Argument, arguments_of, field, front, next, others}, Faults.too_many}
+use Rattle.frame_values.specs.{Fields.{is_there, span_if}, Lines.{delays_of, rest_of, rest_unless, source_of}}
+use Rattle.frame_values.specs.{Parts.part, Ranges.AreTwenty, Signatures.{after_algorithm, algorithm_if, has_words}}
+use Rattle.frame_values.specs.Signatures.{is_space, object_of, signature_of, signed_by}
+use Rattle.frame_values.specs.declared.found.{DirSource.DirSource, Span.Span, VoteSignature.VoteSignature}
 use Rattle.frame_values.specs.declared.values.Value.TheVariants as value
 use Rattle.frame_laws.proofs.StandingParts.{rest_part}
-use Rattle.row_laws.proofs.ItemArguments.{IsSound, are_found, found_word, front_found, others_found}
-use Rattle.row_laws.proofs.ReadSteps.{ReadAs, any_reads, field_reads, fingerprint_reads, if_reads, key_digest_reads}
-use Rattle.row_laws.proofs.ReadSteps.{next_reads, number_within, rest_reads, span_reads}
-use Rattle.range_laws.proofs.ValueTexts.{TextIs}
-use Rattle.range_laws.proofs.ReadNames.{count_words}
-use Rattle.range_laws.proofs.RelayReads.{ip_reads, nickname_there, port_reads, weaker_reads}
+use Rattle.row_laws.proofs.{ItemArguments.{IsSound, are_found, found_word, front_found, others_found}, ReadSteps.ReadAs}
+use Rattle.row_laws.proofs.ReadSteps.{any_reads, field_reads, fingerprint_reads, if_reads, key_digest_reads, next_reads}
+use Rattle.row_laws.proofs.ReadSteps.{number_within, rest_reads, span_reads}
+use Rattle.range_laws.proofs.{ValueTexts.TextIs, ReadNames.count_words, RelayReads.{ip_reads, nickname_there}}
+use Rattle.range_laws.proofs.RelayReads.{port_reads, weaker_reads}
 
 -- ---- values
 

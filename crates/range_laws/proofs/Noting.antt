@@ -1,55 +1,36 @@
 -- What a vote remembers with one more item: of a relay that there is one more, of an Ed25519 key that it stands, and of
 -- others nothing.
-use Rattle.std.proofs.Common.{◌≡◌, ℕ, ◌+◌, ◌<◌, ◌≤◌, Bool, true, false, List, [], Result, Ok, Err, refl, sym, ap}
-use Rattle.std.proofs.Common.{subst, ◌∙◌, arith}
-use Rattle.std.specs.Prelude.{nat_lt, if◌then◌else◌}
-use Rattle.std.specs.Cmp.Lexicographic.{slice_cmp, texts_ties}
+use Rattle.std.proofs.Common.{◌≡◌, ℕ, ◌+◌, ◌<◌, ◌≤◌, Bool, true, false, List, [], Result, Ok, Err, refl, sym, ap, subst}
+use Rattle.std.proofs.{Common.{◌∙◌, arith}, lemmas.Bool.{false≢true, ltb-true, or_left, or_right}}
+use Rattle.std.{proofs.lemmas.{Cmp.nat_list_cmp_total, Slice.Eq.bytes_eq-Decides}, specs.Prelude.nat_lt}
+use Rattle.std.specs.{Prelude.if◌then◌else◌, Cmp.Lexicographic.{slice_cmp, texts_ties}, Ordering.{eq_by_cmp, nat_cmp}}
 use Rattle.std.specs.FinSet as set
-use Rattle.std.specs.Ordering.{eq_by_cmp, nat_cmp}
-use Rattle.std.proofs.lemmas.Bool.{false≢true, ltb-true, or_left, or_right}
-use Rattle.std.proofs.lemmas.Cmp.{nat_list_cmp_total}
-use Rattle.std.proofs.lemmas.Slice.Eq.{bytes_eq-Decides}
 use Rattle.item_terms.specs.Items.{Item}
-use Rattle.frame_terms.specs.Keywords.{same}
-use Rattle.frame_terms.specs.Order.{opener}
-use Rattle.frame_terms.specs.Rows.{row}
-use Rattle.frame_terms.specs.declared.fault.FrameFault.{FrameFault}
+use Rattle.frame_terms.specs.{Keywords.same, Order.opener, Rows.row, declared.fault.FrameFault.FrameFault}
 use Rattle.frame_terms.specs.declared.fault.FrameReason.TheVariants.{DuplicateEd, TooMany, Twice, Unsorted}
+use Rattle.frame_terms.specs.declared.row.{Count.TheVariants.One, Limit.TheVariants.Entries}
 use Rattle.frame_terms.specs.declared.keyword.Keyword.TheVariants as the
-use Rattle.frame_terms.specs.declared.row.Count.TheVariants.{One}
-use Rattle.frame_terms.specs.declared.row.Limit.TheVariants.{Entries}
 use Rattle.frame_values.specs.declared.values.Value.{Value}
 use Rattle.frame_values.specs.declared.values.Value.TheVariants as value
-use Rattle.value_groups.specs.declared.line.RandomLine.{RandomLine}
+use Rattle.value_groups.specs.declared.{line.RandomLine.RandomLine, value.SharedRandom.SharedRandom}
 use Rattle.value_groups.specs.declared.line.RandomLine.TheVariants as random_line
-use Rattle.value_groups.specs.declared.value.SharedRandom.{SharedRandom}
 use Rattle.frame_laws.proofs.KnownWords.{same-sym}
-use Rattle.relay_entries.specs.Lines.{ed_of, micro_of, relay_of}
-use Rattle.relay_entries.specs.Listing.{fault_at, is_next, with_key, with_relay}
-use Rattle.relay_entries.specs.declared.listed.Listed.{Listed}
-use Rattle.relay_entries.specs.declared.said.EdOpinion.{EdOpinion}
+use Rattle.relay_entries.specs.{Lines.{ed_of, micro_of, relay_of}, Listing.{fault_at, is_next, with_key, with_relay}}
+use Rattle.relay_entries.specs.declared.{listed.Listed.Listed, said.{EdOpinion.EdOpinion, EntryValue.EntryValue}}
+use Rattle.relay_entries.specs.declared.said.{MicroLine.MicroLine, RelayLine.RelayLine}
 use Rattle.relay_entries.specs.declared.said.EdOpinion.TheVariants as opinion
 use Rattle.relay_entries.specs.declared.said.EntryKind.TheVariants as entry
-use Rattle.relay_entries.specs.declared.said.EntryValue.{EntryValue}
 use Rattle.relay_entries.specs.declared.said.EntryValue.TheVariants as entry_said
-use Rattle.relay_entries.specs.declared.said.MicroLine.{MicroLine}
-use Rattle.relay_entries.specs.declared.said.RelayLine.{RelayLine}
 use Rattle.vote_frame.specs.Across.{has_line, keyword_of, unless_wrong, with_line, with_listed}
-use Rattle.vote_frame.specs.declared.across.Across.{Across}
-use Rattle.vote_frame.specs.Tables.{note_value, over_limit, value_at, vote_tables}
-use Rattle.vote_frame.specs.declared.frame.VoteKind.{VoteKind}
+use Rattle.vote_frame.specs.declared.{across.Across.Across, frame.{VoteKind.VoteKind, VoteSection.VoteSection}}
+use Rattle.vote_frame.specs.{declared.frame.VoteValue.VoteValue, Tables.{note_value, over_limit, value_at, vote_tables}}
 use Rattle.vote_frame.specs.declared.frame.VoteKind.TheVariants as kind
-use Rattle.vote_frame.specs.declared.frame.VoteSection.{VoteSection}
 use Rattle.vote_frame.specs.declared.frame.VoteSection.TheVariants as section
-use Rattle.vote_frame.specs.declared.frame.VoteValue.{VoteValue}
 use Rattle.vote_frame.specs.declared.frame.VoteValue.TheVariants as own
-use Rattle.vote_laws.proofs.EntryNotes.{knowing}
-use Rattle.vote_laws.proofs.Heard.{is_quiet, kinds_pass}
+use Rattle.vote_laws.proofs.{EntryNotes.knowing, Heard.{is_quiet, kinds_pass}}
 use Rattle.document_laws.specs.Items.{IsItemOf}
-use Rattle.row_laws.proofs.ReadSteps.{any_reads, no_fault, was_read}
-use Rattle.row_laws.proofs.Saying.{by_own_row}
-use Rattle.range_laws.proofs.EntrySays.{lifted_reads}
-use Rattle.range_laws.proofs.VoteStands.{VoteTaken}
+use Rattle.row_laws.proofs.{ReadSteps.{any_reads, no_fault, was_read}, Saying.by_own_row}
+use Rattle.range_laws.proofs.{EntrySays.lifted_reads, VoteStands.VoteTaken}
 
 -- ---- by what an item says
 

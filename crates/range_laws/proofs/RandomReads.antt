@@ -1,23 +1,17 @@
 -- A shared random value that is read is in range, in whichever section of a vote it stands.
 use Rattle.std.proofs.Common.{ℕ, ◌≤◌, List, Option, Some, None, Result, Ok, Err, Bool, true, false}
-use Rattle.std.specs.Prelude.{IfSome, length, slice_index, take, ◌==◌, ◌&&◌, if◌then◌else◌}
-use Rattle.std.specs.Option.{option_or}
+use Rattle.std.specs.{Prelude.{IfSome, length, slice_index, take, ◌==◌, ◌&&◌, if◌then◌else◌}, Option.option_or}
 use Rattle.base64.specs.GeneralPurpose.{IsBytes}
 use Rattle.item_terms.specs.Items.{Item}
-use Rattle.dir_values.specs.Numbers.{number_of}
-use Rattle.dir_values.specs.declared.digest.Digest2.{Digest2}
+use Rattle.dir_values.specs.{Numbers.number_of, declared.digest.Digest2.Digest2}
 use Rattle.frame_values.specs.Arguments.{arguments_of, field, front, next, others}
-use Rattle.value_groups.specs.Lines.{random_of}
-use Rattle.value_groups.specs.Values.{padded_digest, without_padding}
-use Rattle.value_groups.specs.declared.line.RandomLine.{RandomLine}
-use Rattle.value_groups.specs.declared.value.SharedRandom.{SharedRandom}
-use Rattle.group_laws.specs.LineAgain.{IsRandomInRange}
-use Rattle.group_laws.specs.Ranges.{AreThirtyTwo}
+use Rattle.value_groups.specs.{Lines.random_of, Values.{padded_digest, without_padding}}
+use Rattle.value_groups.specs.declared.{line.RandomLine.RandomLine, value.SharedRandom.SharedRandom}
+use Rattle.group_laws.specs.{LineAgain.IsRandomInRange, Ranges.AreThirtyTwo}
 use Rattle.vote_frame.specs.declared.frame.VoteValue.TheVariants as own
 use Rattle.vote_doc.specs.Saying.{random_of_value}
-use Rattle.row_laws.proofs.ItemArguments.{IsSound, are_found, others_found}
-use Rattle.row_laws.proofs.ReadBytes.{bytes_take}
-use Rattle.row_laws.proofs.ReadSteps.{ReadAs, field_reads, next_reads, number_within, front_bytes}
+use Rattle.row_laws.proofs.{ItemArguments.{IsSound, are_found, others_found}, ReadBytes.bytes_take, ReadSteps.ReadAs}
+use Rattle.row_laws.proofs.ReadSteps.{field_reads, next_reads, number_within, front_bytes}
 use Rattle.range_laws.proofs.EntryReads.{thirty_two}
 
 -- without its padding a text is of bytes too

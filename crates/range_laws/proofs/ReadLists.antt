@@ -1,35 +1,23 @@
 -- What texts list is in range: params, versions of protocols and versions of Tor.
 use Rattle.std.proofs.Common.{◌≡◌, ℕ, zero, suc, ◌+◌, ◌<◌, ◌≤◌, Bool, true, false, cond, List, [], ◌∷◌, length, map}
-use Rattle.std.proofs.Common.{drop, Option, Some, None, refl, subst, arith}
-use Rattle.std.specs.Prelude.{All, AllPairs, filter, is_some, not, unwrap_or, option_map, ℤ, pos, neg_ℤ, FitsSigned}
-use Rattle.std.specs.Prelude.{if◌then◌else◌}
-use Rattle.std.specs.Int.{w32}
-use Rattle.std.specs.List.{find, fold, range_with_len}
-use Rattle.std.specs.Str.{bytes_eq}
-use Rattle.std.specs.Str.Parse.{starts_with_minus}
-use Rattle.std.proofs.lemmas.Bool.{and_parts, false≢true}
+use Rattle.std.proofs.{Common.{drop, Option, Some, None, refl, subst, arith}, lemmas.Bool.{and_parts, false≢true}}
 use Rattle.std.proofs.lemmas.List.Elements.{All-cons, All-head, All-nil, All-tail, All-weaker}
-use Rattle.std.proofs.lemmas.Int.{ints}
-use Rattle.std.proofs.lemmas.List.Sums.{AllPass-from_list_all}
+use Rattle.std.{proofs.lemmas.{List.Sums.AllPass-from_list_all, Int.ints}, specs.Prelude.{All, AllPairs, filter}}
+use Rattle.std.specs.{Prelude.{is_some, not, unwrap_or, option_map, ℤ, pos, neg_ℤ, FitsSigned, if◌then◌else◌}, Int.w32}
+use Rattle.std.specs.{List.{find, fold, range_with_len}, Str.{bytes_eq, Parse.starts_with_minus}}
 use Rattle.dir_bytes.specs.Fields.{number, signed_number}
 use Rattle.item_terms.specs.Words.{words_of}
-use Rattle.dir_values.specs.Arguments.{Argument, arguments_at, texts_of}
-use Rattle.dir_values.specs.Digests.{bytes_below}
-use Rattle.dir_values.specs.FlagSets.{is_name, unless_wrong}
-use Rattle.dir_values.proofs.ArgumentWords.{arguments_words}
-use Rattle.dir_values.proofs.Orders.{AllPairs-cons, AllPairs-nil}
-use Rattle.list_values.specs.declared.named.Named.{Named}
-use Rattle.list_values.specs.Equations.{left_side, right_side}
-use Rattle.list_values.specs.Maps.{Ascend, named_value, with_value}
-use Rattle.list_values.specs.NumberSets.{numbers_from, numbers_that, united_numbers}
+use Rattle.dir_values.specs.{Arguments.{Argument, arguments_at, texts_of}, Digests.bytes_below, FlagSets.is_name}
+use Rattle.dir_values.{specs.FlagSets.unless_wrong, proofs.{ArgumentWords.arguments_words, Orders.AllPairs-cons}}
+use Rattle.dir_values.proofs.Orders.{AllPairs-nil}
+use Rattle.list_values.specs.{declared.named.Named.Named, Equations.{left_side, right_side}, Maps.{Ascend, named_value}}
+use Rattle.list_values.specs.{Maps.with_value, NumberSets.{numbers_from, numbers_that, united_numbers}}
+use Rattle.list_values.specs.{Params.{as_params, its_name, wrong_param}, Protocols.{as_protocols, is_protocol}}
+use Rattle.list_values.specs.{Protocols.{ranges_in, wrong_protocol}, VersionLists.{are_versions, is_version}}
+use Rattle.list_values.{specs.Parts.parts_of, proofs.Maps.{Ascend-nil, Ascend-with_value}}
 use Rattle.list_values.specs.Params as param
-use Rattle.list_values.specs.Params.{as_params, its_name, wrong_param}
 use Rattle.list_values.specs.Protocols as protocol
-use Rattle.list_values.specs.Protocols.{as_protocols, is_protocol, ranges_in, wrong_protocol}
-use Rattle.list_values.specs.VersionLists.{are_versions, is_version}
 use Rattle.list_values.specs.VersionLists as version
-use Rattle.list_values.proofs.Maps.{Ascend-nil, Ascend-with_value}
-use Rattle.list_values.specs.Parts.{parts_of}
 use Rattle.value_laws.specs.Ranges.{AreNumbersInRange, AreParamsInRange, AreProtocolsInRange, AreVersionsInRange}
 use Rattle.value_laws.specs.Ranges.{IsParamInRange, IsProtocolInRange}
 use Rattle.value_groups.specs.Listed.{members_of, params_in, protocols_in, versions_in}

@@ -1,16 +1,10 @@
 -- What texts list: as many words as arguments, and flags, which are names.
 use Rattle.std.proofs.Common.{◌≡◌, ℕ, suc, ◌+◌, ◌≤◌, Bool, true, false, List, [], ◌∷◌, ◌++◌, length, Some, None, refl}
-use Rattle.std.proofs.Common.{sym, ap, subst, ◌∙◌, arith}
-use Rattle.std.specs.Prelude.{All, ◌&&◌, not, if◌then◌else◌}
-use Rattle.std.specs.List.{fold}
-use Rattle.std.specs.Str.{bytes_eq}
-use Rattle.std.proofs.lemmas.Bool.{and_parts}
-use Rattle.std.proofs.lemmas.List.Elements.{All-cons, All-nil}
+use Rattle.std.proofs.{Common.{sym, ap, subst, ◌∙◌, arith}, lemmas.{Bool.and_parts, List.Elements.{All-cons, All-nil}}}
+use Rattle.std.specs.{Prelude.{All, ◌&&◌, not, if◌then◌else◌}, List.fold, Str.bytes_eq}
 use Rattle.item_terms.specs.Words.{words_of}
-use Rattle.dir_values.specs.Arguments.{Argument, arguments_at, texts_of}
-use Rattle.dir_values.specs.Digests.{bytes_below}
-use Rattle.dir_values.specs.FlagSets.{as_set, is_among, is_name, with_flag, wrong_flag}
-use Rattle.dir_values.proofs.ArgumentWords.{arguments_words}
+use Rattle.dir_values.specs.{Arguments.{Argument, arguments_at, texts_of}, Digests.bytes_below, FlagSets.as_set}
+use Rattle.dir_values.{specs.FlagSets.{is_among, is_name, with_flag, wrong_flag}, proofs.ArgumentWords.arguments_words}
 
 -- ---- words
 

@@ -1,29 +1,16 @@
 -- What the line of a relay, of an address and of flags says is in range.
 use Rattle.std.proofs.Common.{◌≡◌, ℕ, ◌+◌, ◌*◌, ◌<◌, ◌≤◌, ◌^◌, true, List, [], ◌∷◌, Result, Ok, Err, refl, sym, ap}
-use Rattle.std.proofs.Common.{subst, ◌∙◌}
-use Rattle.std.specs.Prelude.{All}
-use Rattle.std.proofs.lemmas.Bool.{false≢true}
+use Rattle.std.{proofs.{Common.{subst, ◌∙◌}, lemmas.Bool.false≢true}, specs.Prelude.All}
 use Rattle.base64.specs.GeneralPurpose.{IsBytes}
 use Rattle.dir_bytes.specs.Fields.{address, date, time_of_day}
-use Rattle.item_terms.specs.Items.{Item}
-use Rattle.item_terms.specs.Words.{words_of}
+use Rattle.item_terms.specs.{Items.Item, Words.words_of}
 use Rattle.dirdoc_grammar.specs.Writers.{is_argument}
-use Rattle.dir_values.specs.Arguments.{Argument}
-use Rattle.dir_values.specs.Digests.{digest1}
-use Rattle.dir_values.specs.FlagSets.{wrong_flag}
-use Rattle.dir_values.specs.Names.{is_nickname}
-use Rattle.dir_values.specs.Numbers.{port_of}
-use Rattle.dir_values.specs.declared.digest.Digest1.{Digest1}
-use Rattle.dir_values.specs.declared.digest.Fingerprint.{Fingerprint}
-use Rattle.frame_values.specs.Arguments.{arguments_of, field, front, next, others}
-use Rattle.frame_values.specs.Fields.{is_there, span_if}
-use Rattle.frame_values.specs.Lines.{flags_of}
-use Rattle.frame_values.specs.Parts.{part}
-use Rattle.frame_values.specs.Ranges.{AreTwenty}
-use Rattle.frame_values.specs.declared.found.Span.{Span}
+use Rattle.dir_values.specs.{Arguments.Argument, Digests.digest1, FlagSets.wrong_flag, Names.is_nickname}
+use Rattle.dir_values.specs.{Numbers.port_of, declared.digest.{Digest1.Digest1, Fingerprint.Fingerprint}}
+use Rattle.frame_values.specs.{Arguments.{arguments_of, field, front, next, others}, Fields.{is_there, span_if}}
+use Rattle.frame_values.specs.{Lines.flags_of, Parts.part, Ranges.AreTwenty, declared.found.Span.Span}
 use Rattle.frame_laws.proofs.StandingParts.{rest_part}
-use Rattle.relay_entries.specs.Fields.{identity, is_address}
-use Rattle.relay_entries.specs.Lines.{address_of, relay_of}
+use Rattle.relay_entries.specs.{Fields.{identity, is_address}, Lines.{address_of, relay_of}}
 use Rattle.relay_entries.specs.declared.said.RelayLine.{RelayLine}
 use Rattle.group_laws.specs.Ranges.{IsAddressInRange, IsRelayInRange}
 use Rattle.row_laws.proofs.ItemArguments.{AreFound, IsSound, are_found, found_word, front_found, others_found}

@@ -1,17 +1,11 @@
 -- How long joined texts, lines of Base64 and names of keywords are.
 use Rattle.std.proofs.Common.{◌≡◌, ℕ, suc, ◌+◌, ◌*◌, ◌/◌, ◌%◌, ◌^◌, ◌≤◌, ◌<◌, Bool, true, false, List, [], ◌∷◌, ◌++◌}
-use Rattle.std.proofs.Common.{length, length-append, refl, arith, ⊎_elim}
-use Rattle.std.specs.Prelude.{◌==◌, All, decimal, nat_le}
-use Rattle.std.specs.List.{join_with_byte}
-use Rattle.std.proofs.lemmas.Bool.{cases_lt, eqb-true, eqb-false, leb-true}
-use Rattle.std.proofs.lemmas.Fmt.{length-decimal-le}
-use Rattle.std.proofs.lemmas.List.Elements.{All-head, All-tail}
+use Rattle.std.proofs.{Common.{length, length-append, refl, arith, ⊎_elim}, lemmas.Bool.{cases_lt, eqb-true, eqb-false}}
+use Rattle.std.proofs.lemmas.{Bool.leb-true, Fmt.length-decimal-le, List.Elements.{All-head, All-tail}}
+use Rattle.std.specs.{Prelude.{◌==◌, All, decimal, nat_le}, List.join_with_byte}
 use Rattle.dir_bytes.specs.FieldTexts.{address_text}
-use Rattle.dirdoc_grammar.specs.Bodies.{in_lines}
-use Rattle.dirdoc_grammar.specs.Writing.{tail}
-use Rattle.frame_terms.specs.Keywords.{text_of}
-use Rattle.frame_terms.specs.declared.keyword.Keyword.{Keyword}
-use Rattle.frame_terms.specs.declared.keyword.Keyword.TheVariants.{NetworkStatusVersion}
+use Rattle.dirdoc_grammar.specs.{Bodies.in_lines, Writing.tail}
+use Rattle.frame_terms.specs.{Keywords.text_of, declared.keyword.Keyword.{Keyword, TheVariants.NetworkStatusVersion}}
 
 -- ---- texts with a byte between each two
 

@@ -1,10 +1,7 @@
 -- What the text of an item is, where there is one.
-use Rattle.std.proofs.Common.{ℕ, List, Option, Some, None}
-use Rattle.std.specs.Prelude.{IfSome, option_map}
+use Rattle.std.{proofs.Common.{ℕ, List, Option, Some, None}, specs.Prelude.{IfSome, option_map}}
 use Rattle.frame_terms.specs.declared.document.Taken.{Taken}
-use Rattle.frame_values.specs.Parts.{part}
-use Rattle.frame_values.specs.Values.{text_if, text_of_value}
-use Rattle.frame_values.specs.declared.values.Value.{Value}
+use Rattle.frame_values.specs.{Parts.part, Values.{text_if, text_of_value}, declared.values.Value.Value}
 use Rattle.frame_values.specs.declared.values.Value.TheVariants as value
 
 module _ {W : Type 0} where

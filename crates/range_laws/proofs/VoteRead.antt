@@ -1,43 +1,28 @@
 -- What is read of a vote is in range, but for the limits.
 use Rattle.std.proofs.Common.{◌≡◌, ◌⊎◌, ℕ, true, List, [], ◌∷◌, ◌++◌, drop, length, map, take, refl, sym, subst, arith}
-use Rattle.std.proofs.Common.{inl, inr}
-use Rattle.std.specs.Prelude.{All, replicate}
-use Rattle.std.specs.List.{fold}
-use Rattle.std.proofs.lemmas.List.Elements.{All-head, All-map, All-tail, All-weaker}
+use Rattle.std.proofs.{Common.{inl, inr}, lemmas.List.Elements.{All-head, All-map, All-tail, All-weaker}}
+use Rattle.std.specs.{Prelude.{All, replicate}, List.fold}
 use Rattle.base64.specs.GeneralPurpose.{IsBytes}
 use Rattle.item_terms.specs.Items.{Item, items_of}
 use Rattle.dir_values.specs.Digests.{identity_below}
 use Rattle.frame_values.specs.declared.values.Value.{Value}
-use Rattle.vote_terms.specs.Votes.{ReadVote, max_vote}
-use Rattle.vote_terms.specs.declared.entry.EntryFacts.{EntryFacts}
+use Rattle.vote_terms.specs.{Votes.{ReadVote, max_vote}, declared.entry.EntryFacts.EntryFacts}
 use Rattle.vote_text.specs.Texts.{vote_items}
-use Rattle.vote_frame.specs.Tables.{vote_tables}
-use Rattle.vote_frame.specs.declared.frame.VoteSection.{VoteSection}
+use Rattle.vote_frame.specs.{Tables.vote_tables, declared.frame.{VoteSection.VoteSection, VoteValue.VoteValue}}
 use Rattle.vote_frame.specs.declared.frame.VoteSection.TheVariants as section
-use Rattle.vote_frame.specs.declared.frame.VoteValue.{VoteValue}
-use Rattle.vote_entries.specs.Entries.{entry_in}
-use Rattle.vote_entries.specs.Kept.{KeptEntry}
-use Rattle.vote_doc.specs.Kept.{kept_with, none_kept}
-use Rattle.vote_doc.specs.declared.head.Head.{Head}
-use Rattle.vote_doc.specs.declared.kept.Kept.{Kept}
-use Rattle.vote_laws.specs.Again.{AreEntriesInRange, DifferInKey, IsEntryInRange}
-use Rattle.vote_laws.proofs.Members.{AllPairs-map}
-use Rattle.document_laws.specs.Items.{AreItemsIn}
-use Rattle.document_laws.specs.Order.{AreInOrder, BeginsWithOpener, Part, sections_of}
-use Rattle.document_laws.proofs.Ordering.{stand_in_order}
-use Rattle.document_laws.proofs.Taking.{are_said}
-use Rattle.row_laws.proofs.ReadBytes.{bytes_drop, bytes_take}
-use Rattle.row_laws.proofs.Saying.{EachSound, all_sound, each_stands}
-use Rattle.vote_kinds.proofs.ClearVotes.{vote_kinds_are_clear}
-use Rattle.vote_parts.specs.Own.{IsOwn}
-use Rattle.vote_parts.proofs.OwnVotes.{own_read, placed_read}
-use Rattle.range_laws.specs.Votes.{IsInRangeButForLimits, VotesReadAreInRange, VotesWithinLimitsAreInRange}
+use Rattle.vote_entries.specs.{Entries.entry_in, Kept.KeptEntry}
+use Rattle.vote_doc.specs.{Kept.{kept_with, none_kept}, declared.{head.Head.Head, kept.Kept.Kept}}
+use Rattle.vote_laws.{specs.Again.{AreEntriesInRange, DifferInKey, IsEntryInRange}, proofs.Members.AllPairs-map}
 use Rattle.vote_laws.proofs.MayWrite.{items_writable}
-use Rattle.range_laws.proofs.EntryKeys.{keys_apart}
-use Rattle.range_laws.proofs.EntryRoom.{VoteGroup, few_entries}
-use Rattle.range_laws.proofs.KeptEntries.{AreKept, IsKept, count_map}
-use Rattle.range_laws.proofs.KeptHeads.{AuthorityOf, HasAuthority, KeptIs, nothing_kept, heads_with_one_group_kept}
-use Rattle.range_laws.proofs.KeptSome.{AreSome, none_some, some_kept}
+use Rattle.document_laws.specs.{Items.AreItemsIn, Order.{AreInOrder, BeginsWithOpener, Part, sections_of}}
+use Rattle.document_laws.proofs.{Ordering.stand_in_order, Taking.are_said}
+use Rattle.row_laws.proofs.{ReadBytes.{bytes_drop, bytes_take}, Saying.{EachSound, all_sound, each_stands}}
+use Rattle.vote_kinds.proofs.ClearVotes.{vote_kinds_are_clear}
+use Rattle.vote_parts.{specs.Own.IsOwn, proofs.OwnVotes.{own_read, placed_read}}
+use Rattle.range_laws.specs.Votes.{IsInRangeButForLimits, VotesReadAreInRange, VotesWithinLimitsAreInRange}
+use Rattle.range_laws.proofs.{EntryKeys.keys_apart, EntryRoom.{VoteGroup, few_entries}, KeptEntries.{AreKept, IsKept}}
+use Rattle.range_laws.proofs.{KeptEntries.count_map, KeptHeads.{AuthorityOf, HasAuthority, KeptIs, nothing_kept}}
+use Rattle.range_laws.proofs.{KeptHeads.heads_with_one_group_kept, KeptSome.{AreSome, none_some, some_kept}}
 use Rattle.range_laws.proofs.KeptFacts.{facts_ranged}
 
 -- ---- the sections of a vote

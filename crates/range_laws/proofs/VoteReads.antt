@@ -2,39 +2,25 @@
 use Rattle.std.proofs.Common.{◌≡◌, ℕ, ◌≤◌, List, [], length, Option, None, Result, Ok, refl, sym, subst}
 use Rattle.std.specs.Prelude.{All}
 use Rattle.base64.specs.GeneralPurpose.{IsBytes}
-use Rattle.item_terms.specs.Items.{Item}
-use Rattle.item_terms.specs.Words.{words_of}
+use Rattle.item_terms.specs.{Items.Item, Words.words_of}
 use Rattle.dirdoc_grammar.specs.Writing.{IsLineRest}
-use Rattle.dir_values.specs.FlagSets.{wrong_flag}
-use Rattle.dir_values.specs.Numbers.{wrong_number}
+use Rattle.dir_values.specs.{FlagSets.wrong_flag, Numbers.wrong_number}
 use Rattle.frame_terms.specs.declared.row.Limit.TheVariants as limit
-use Rattle.frame_values.specs.Arguments.{arguments_of, next}
-use Rattle.frame_values.specs.Faults.{at_place, unless_fault}
-use Rattle.frame_values.specs.Lines.{delays_of, rest_of, rest_unless, source_of}
-use Rattle.frame_values.specs.Parts.{part}
-use Rattle.frame_values.specs.Signatures.{signature_of}
-use Rattle.frame_values.specs.declared.found.DirSource.{DirSource}
-use Rattle.frame_values.specs.declared.found.Span.{Span}
-use Rattle.frame_values.specs.declared.found.VoteSignature.{VoteSignature}
+use Rattle.frame_values.specs.{Arguments.{arguments_of, next}, Faults.{at_place, unless_fault}, Lines.delays_of}
+use Rattle.frame_values.specs.{Lines.{rest_of, rest_unless, source_of}, Parts.part, Signatures.signature_of}
+use Rattle.frame_values.specs.declared.found.{DirSource.DirSource, Span.Span, VoteSignature.VoteSignature}
 use Rattle.frame_values.specs.declared.values.Value.{Value}
 use Rattle.frame_values.specs.declared.values.Value.TheVariants as value
 use Rattle.list_values.specs.Params.{wrong_param}
-use Rattle.value_groups.specs.Lines.{random_of}
-use Rattle.value_groups.specs.declared.line.RandomLine.{RandomLine}
-use Rattle.value_groups.specs.declared.value.SharedRandom.{SharedRandom}
+use Rattle.value_groups.specs.{Lines.random_of, declared.{line.RandomLine.RandomLine, value.SharedRandom.SharedRandom}}
 use Rattle.group_laws.specs.LineAgain.{IsRandomInRange}
-use Rattle.vote_frame.specs.Tables.{over_limit, vote_tables}
-use Rattle.vote_frame.specs.declared.across.Across.{Across}
-use Rattle.vote_frame.specs.declared.frame.VoteKind.{VoteKind}
-use Rattle.vote_frame.specs.declared.frame.VoteKind.TheVariants as kind
+use Rattle.vote_frame.specs.{Tables.{over_limit, vote_tables}, declared.{across.Across.Across, frame.VoteKind.VoteKind}}
 use Rattle.vote_frame.specs.declared.frame.VoteValue.{VoteValue}
+use Rattle.vote_frame.specs.declared.frame.VoteKind.TheVariants as kind
 use Rattle.vote_frame.specs.declared.frame.VoteValue.TheVariants as own
-use Rattle.row_laws.proofs.KindRanges.{KindIs, kind_read, kind_unless}
-use Rattle.row_laws.proofs.ReadSteps.{ReadAs}
-use Rattle.row_laws.proofs.Saying.{Says}
+use Rattle.row_laws.proofs.{KindRanges.{KindIs, kind_read, kind_unless}, ReadSteps.ReadAs, Saying.Says}
 use Rattle.range_laws.proofs.LineReads.{AreDelays, IsSigned, IsSourceIn, delays_read, few_words, rest_read}
-use Rattle.range_laws.proofs.LineReads.{signature_reads, source_reads, text_reads}
-use Rattle.range_laws.proofs.RandomReads.{random_reads}
+use Rattle.range_laws.proofs.{LineReads.{signature_reads, source_reads, text_reads}, RandomReads.random_reads}
 use Rattle.range_laws.proofs.ReadNames.{IsName, names_of_words}
 
 -- ---- kinds

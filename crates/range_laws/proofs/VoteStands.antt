@@ -1,31 +1,19 @@
 -- What stands in a section of a vote says what the row of its keyword has, and so what is kept of it is in range.
 use Rattle.std.proofs.Common.{◌≡◌, ℕ, Bool, true, false, List, [], ◌∷◌, Option, Some, None, refl, sym, ap, ◌∙◌, Result}
-use Rattle.std.proofs.Common.{Ok, inl, inr}
-use Rattle.std.specs.Prelude.{IfSome, is_some, option_map, if◌then◌else◌}
-use Rattle.std.proofs.lemmas.Bool.{false≢true}
+use Rattle.std.{proofs.{Common.{Ok, inl, inr}, lemmas.Bool.false≢true}, specs.Prelude.{IfSome, is_some, option_map}}
+use Rattle.std.specs.Prelude.{if◌then◌else◌}
 use Rattle.base64.specs.GeneralPurpose.{IsBytes}
-use Rattle.frame_terms.specs.declared.document.Taken.{Taken}
-use Rattle.frame_terms.specs.declared.fault.FrameFault.{FrameFault}
-use Rattle.frame_terms.specs.declared.keyword.Keyword.{Keyword}
-use Rattle.frame_terms.specs.declared.keyword.Keyword.TheVariants as the
-use Rattle.frame_terms.specs.declared.row.Row.{Row}
-use Rattle.frame_terms.specs.Keywords.{same}
-use Rattle.frame_terms.specs.Order.{inner, opener}
-use Rattle.frame_terms.specs.Sections.{row_of}
+use Rattle.frame_terms.specs.declared.{document.Taken.Taken, fault.FrameFault.FrameFault, keyword.Keyword.Keyword}
+use Rattle.frame_terms.specs.{declared.row.Row.Row, Keywords.same, Order.{inner, opener}, Sections.row_of}
 use Rattle.frame_terms.specs.Tables.{Tables}
-use Rattle.frame_values.specs.Parts.{part}
-use Rattle.frame_values.specs.Values.{item_at, text_if}
-use Rattle.frame_values.specs.declared.values.Value.{Value}
+use Rattle.frame_terms.specs.declared.keyword.Keyword.TheVariants as the
+use Rattle.frame_values.specs.{Parts.part, Values.{item_at, text_if}, declared.values.Value.Value}
 use Rattle.frame_laws.proofs.KnownWords.{same-sym}
-use Rattle.vote_frame.specs.Tables.{vote_tables}
-use Rattle.vote_frame.specs.declared.frame.VoteKind.{VoteKind}
-use Rattle.vote_frame.specs.declared.frame.VoteSection.{VoteSection}
-use Rattle.vote_frame.specs.declared.frame.VoteSection.TheVariants as section
+use Rattle.vote_frame.specs.{Tables.vote_tables, declared.frame.{VoteKind.VoteKind, VoteSection.VoteSection}}
 use Rattle.vote_frame.specs.declared.frame.VoteValue.{VoteValue}
-use Rattle.document_laws.specs.Items.{IsItemIn}
-use Rattle.document_laws.specs.Order.{BeginsWithOpener}
-use Rattle.row_laws.proofs.KindRanges.{IsNotInside, field_is}
-use Rattle.row_laws.proofs.Saying.{EachStands, Says, Stands, of_row}
+use Rattle.vote_frame.specs.declared.frame.VoteSection.TheVariants as section
+use Rattle.document_laws.specs.{Items.IsItemIn, Order.BeginsWithOpener}
+use Rattle.row_laws.proofs.{KindRanges.{IsNotInside, field_is}, Saying.{EachStands, Says, Stands, of_row}}
 use Rattle.range_laws.proofs.VoteReads.{TextsAre, VoteIs, VoteSays}
 
 abbrev pub VoteTaken : Type 0

@@ -1,34 +1,25 @@
 -- The items of a vote that says what is in range may be written, but for the limits.
-use Rattle.std.proofs.Common.{◌≡◌, ℕ, true, List, [], ◌∷◌, ◌++◌, refl}
-use Rattle.std.specs.Prelude.{All, IfSome, codes}
-use Rattle.std.proofs.lemmas.List.Elements.{All-append, All-cons, All-weaker}
+use Rattle.std.proofs.{Common.{◌≡◌, ℕ, true, List, [], ◌∷◌, ◌++◌, refl}, lemmas.List.Elements.{All-append, All-cons}}
+use Rattle.std.{proofs.lemmas.List.Elements.All-weaker, specs.Prelude.{All, IfSome, codes}}
 use Rattle.base64.specs.GeneralPurpose.{IsBytes}
 use Rattle.dir_bytes.specs.FieldTexts.{hex_text}
-use Rattle.dirdoc_grammar.specs.Writers.{is_argument}
-use Rattle.dirdoc_grammar.specs.Writing.{IsLineRest}
-use Rattle.grammar_laws.proofs.LineRests.{rest_of_nothing}
-use Rattle.grammar_laws.specs.Written.{IsItem}
-use Rattle.dir_values.specs.declared.algorithm.Algorithm.{Algorithm}
-use Rattle.dir_values.specs.declared.algorithm.Algorithm.TheVariants.{Sha1, Sha256}
+use Rattle.dirdoc_grammar.specs.{Writers.is_argument, Writing.IsLineRest}
+use Rattle.grammar_laws.{proofs.LineRests.rest_of_nothing, specs.Written.IsItem}
+use Rattle.dir_values.specs.declared.algorithm.Algorithm.{Algorithm, TheVariants.{Sha1, Sha256}}
 use Rattle.frame_terms.specs.declared.keyword.Keyword.TheVariants as the
 use Rattle.frame_values.specs.Items.{bare, with_object}
 use Rattle.frame_laws.proofs.WordTexts.{IsWord, two_words, word_of_identity}
 use Rattle.value_laws.proofs.LineWords.{rest_of_words}
 use Rattle.authority_certs.specs.Texts.{cert_items}
 use Rattle.certificate_laws.specs.Again.{SaysInRange}
-use Rattle.vote_terms.specs.declared.facts.SignatureFacts.{SignatureFacts}
-use Rattle.vote_terms.specs.declared.facts.VoteFacts.{VoteFacts}
-use Rattle.vote_text.specs.Entries.{entries_items}
-use Rattle.vote_text.specs.Texts.{algorithm_text, authority_items, footer_items}
+use Rattle.vote_terms.specs.declared.facts.{SignatureFacts.SignatureFacts, VoteFacts.VoteFacts}
+use Rattle.vote_text.specs.{Entries.entries_items, Texts.{algorithm_text, authority_items, footer_items}}
 use Rattle.vote_text.specs.Texts.{preamble_items, signer_text, vote_items}
-use Rattle.vote_laws.proofs.BareRows.{AreRests, IsBare}
-use Rattle.vote_laws.proofs.BareVotes.{before_bare}
-use Rattle.vote_laws.proofs.VoteRows.{preamble_texts}
-use Rattle.vote_laws.specs.Again.{HasValuesInRange, IsSignatureInRange}
-use Rattle.range_laws.proofs.CertItems.{HasBytes, cert_may}
+use Rattle.vote_laws.proofs.{BareRows.{AreRests, IsBare}, BareVotes.before_bare, VoteRows.preamble_texts}
+use Rattle.vote_laws.{proofs.MayWrite.{MayWrite, bare_may, object_may, two_may}, specs.Again.HasValuesInRange}
+use Rattle.vote_laws.specs.Again.{IsSignatureInRange}
+use Rattle.range_laws.proofs.{CertItems.{HasBytes, cert_may}, EntryTexts.entries_bare}
 use Rattle.range_laws.proofs.EntryTexts as entry
-use Rattle.range_laws.proofs.EntryTexts.{entries_bare}
-use Rattle.vote_laws.proofs.MayWrite.{MayWrite, bare_may, object_may, two_may}
 
 -- ---- its signature
 

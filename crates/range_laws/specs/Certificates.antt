@@ -2,9 +2,7 @@
 use Rattle.std.specs.Prelude.{◌≡◌, ℕ, List, All, Ok}
 use Rattle.base64.specs.GeneralPurpose.{IsBytes}
 use Rattle.grammar_laws.specs.Written.{AreWithinLimits, IsItem}
-use Rattle.authority_certs.specs.Reading.{cert_of, max_cert}
-use Rattle.authority_certs.specs.Texts.{cert_items}
-use Rattle.authority_certs.specs.declared.cert.Cert.{Cert}
+use Rattle.authority_certs.specs.{Reading.{cert_of, max_cert}, Texts.cert_items, declared.cert.Cert.Cert}
 use Rattle.certificate_laws.specs.Again.{IsInRange, SaysInRange}
 
 -- Each of the certificate's values is one that can be read, and each of its items may be written, but for the limits: of

@@ -9,11 +9,11 @@ use Rattle.frame_values.specs.Ranges.{AreTwenty}
 use Rattle.authority_certs.specs.Texts.{cert_text}
 use Rattle.certificate_laws.specs.Again.{SaysInRange}
 use Rattle.group_laws.specs.LineAgain.{IsRandomInRange}
-use Rattle.vote_terms.specs.Votes.{ReadVote, max_vote}
-use Rattle.vote_terms.specs.declared.facts.VoteFacts.{VoteFacts}
+use Rattle.vote_terms.specs.{Votes.{ReadVote, max_vote}, declared.facts.VoteFacts.VoteFacts}
 use Rattle.vote_text.specs.Texts.{vote_items}
 use Rattle.vote_doc.specs.Reading.{vote_from}
-use Rattle.vote_laws.specs.Again.{AreEntriesInRange, AreFlags, AreListsInRange, AreMethods, IsInRange, IsSignatureInRange}
+use Rattle.vote_laws.specs.Again.{AreEntriesInRange, AreFlags, AreListsInRange, AreMethods, IsInRange}
+use Rattle.vote_laws.specs.Again.{IsSignatureInRange}
 
 -- The vote says what can be read: each number, text and list is one that an item may have. Each of its items may be
 -- written, but for the limits: of its line, of its object, of the certificate and of the whole.

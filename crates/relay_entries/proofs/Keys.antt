@@ -1,12 +1,9 @@
 -- The keys of a tree, as a finite set.
-use Rattle.std.proofs.Common.{◌≡◌, ℕ, Bool, true, false, cond, List, refl, sym, ap, ◌∙◌}
-use Rattle.std.specs.Prelude.{◌||◌}
-use Rattle.std.specs.BTreeSet.{BTreeSet, contains, Updates}
-use Rattle.std.specs.Cmp.Lexicographic.{slice_cmp}
-use Rattle.std.specs.FinMap.{nat_cmp-IsAntisymmetric, slice_cmp-IsAntisymmetric}
-use Rattle.std.specs.FinSet as set
+use Rattle.std.proofs.{Common.{◌≡◌, ℕ, Bool, true, false, cond, List, refl, sym, ap, ◌∙◌}, lemmas.Cmp.eq_by_cmp_equiv}
+use Rattle.std.{proofs.lemmas.Cmp.nat_list_cmp_total, specs.{Prelude.◌||◌, BTreeSet.{BTreeSet, contains, Updates}}}
+use Rattle.std.specs.{Cmp.Lexicographic.slice_cmp, FinMap.{nat_cmp-IsAntisymmetric, slice_cmp-IsAntisymmetric}}
 use Rattle.std.specs.Ordering.{eq_by_cmp, nat_cmp}
-use Rattle.std.proofs.lemmas.Cmp.{eq_by_cmp_equiv, nat_list_cmp_total}
+use Rattle.std.specs.FinSet as set
 
 -- a key is in the set where it is in the tree
 pub has_key : (tree : BTreeSet (List ℕ)) (key : List ℕ)

@@ -1,6 +1,5 @@
 -- The text of methods, one after the other.
-use Rattle.std.proofs.Common.{◌≡◌, ℕ, List, [], ◌∷◌, ◌++◌, sym, ap, append-nil}
-use Rattle.std.specs.Prelude.{decimal}
+use Rattle.std.{proofs.Common.{◌≡◌, ℕ, List, [], ◌∷◌, ◌++◌, sym, ap, append-nil}, specs.Prelude.decimal}
 use Rattle.std.specs.List.{flat_map}
 use Rattle.item_terms.specs.Bytes.{comma}
 use Rattle.relay_entries.specs.Texts.{methods_text}

@@ -1,18 +1,12 @@
 -- What single arguments of an entry's items say (dir-spec, "Vote and consensus status document formats").
 use Rattle.std.specs.Prelude.{ℕ, ◌-◌, ◌==◌, nat_lt, Bool, not, ◌&&◌, List, length, drop, is_some, Option, Some, None}
-use Rattle.std.specs.Prelude.{if◌then◌else◌, codes, map}
-use Rattle.std.specs.List.{list_all, suffix_len}
-use Rattle.std.specs.Option.{option_map}
-use Rattle.std.specs.Str.{bytes_eq}
+use Rattle.std.specs.{Prelude.{if◌then◌else◌, codes, map}, List.{list_all, suffix_len}, Option.option_map, Str.bytes_eq}
 use Rattle.item_terms.specs.Words.{strip}
 use Rattle.dir_bytes.specs.Fields.{base64}
-use Rattle.dir_values.specs.Digests.{digest2}
-use Rattle.dir_values.specs.Numbers.{number_of, number_in, port_of}
-use Rattle.dir_values.specs.declared.digest.Digest2.{Digest2}
+use Rattle.dir_values.specs.{Digests.digest2, Numbers.{number_of, number_in, port_of}, declared.digest.Digest2.Digest2}
 use Rattle.dir_values.specs.declared.digest.Fingerprint.{Fingerprint}
 pub use Rattle.list_values.specs.Parts.{is_comma, parts_of}
-use Rattle.relay_entries.specs.declared.said.Bandwidths.{Bandwidths}
-use Rattle.relay_entries.specs.declared.said.EdOpinion.{EdOpinion}
+use Rattle.relay_entries.specs.declared.said.{Bandwidths.Bandwidths, EdOpinion.EdOpinion}
 use Rattle.relay_entries.specs.declared.said.EdOpinion.TheVariants as opinion
 
 -- the identity that 27 characters of strict base64 spell, without `=`

@@ -1,31 +1,20 @@
 -- What the items of an entry say, or the place of what is wrong: their arguments from left to right (dir-spec, "Vote
 -- and consensus status document formats").
-use Rattle.std.specs.Prelude.{ℕ, ◌+◌, ◌*◌, Bool, false, not, List, [], ◌∷◌, is_some, Option, Some, None}
-use Rattle.std.specs.Prelude.{Result, Ok, Err, codes, option_and_then}
-use Rattle.std.specs.List.{find}
-use Rattle.std.specs.Str.{bytes_eq}
-use Rattle.item_terms.specs.Items.{Item}
-use Rattle.item_terms.specs.Words.{strip}
+use Rattle.std.specs.Prelude.{ℕ, ◌+◌, ◌*◌, Bool, false, not, List, [], ◌∷◌, is_some, Option, Some, None, Result, Ok}
+use Rattle.std.specs.{Prelude.{Err, codes, option_and_then}, List.find, Str.bytes_eq}
+use Rattle.item_terms.specs.{Items.Item, Words.strip}
 use Rattle.dir_bytes.specs.Fields.{date, time_of_day, address}
-use Rattle.dir_values.specs.Digests.{digest1, digest2}
-use Rattle.dir_values.specs.Names.{is_nickname}
-use Rattle.dir_values.specs.Numbers.{port_of}
+use Rattle.dir_values.specs.{Digests.{digest1, digest2}, Names.is_nickname, Numbers.port_of}
 use Rattle.dir_values.specs.declared.digest.Digest2.{Digest2}
-use Rattle.frame_values.specs.declared.found.Span.{Span}
-use Rattle.frame_values.specs.declared.values.Value.{Value}
+use Rattle.frame_values.specs.{declared.{found.Span.Span, values.Value.Value}, Arguments.{Argument, arguments_of}}
+use Rattle.frame_values.specs.{Arguments.{front, others, field, next}, Fields.span_if, Lines.{flags_of, rest_of}}
 use Rattle.frame_values.specs.declared.values.Value.TheVariants as value
-use Rattle.frame_values.specs.Arguments.{Argument, arguments_of, front, others, field, next}
-use Rattle.frame_values.specs.Fields.{span_if}
-use Rattle.frame_values.specs.Lines.{flags_of, rest_of}
-use Rattle.relay_entries.specs.declared.said.Bandwidths.{Bandwidths as BandwidthsSaid}
-use Rattle.relay_entries.specs.declared.said.EdOpinion.{EdOpinion}
-use Rattle.relay_entries.specs.declared.said.EntryKind.{EntryKind}
-use Rattle.relay_entries.specs.declared.said.EntryKind.TheVariants.{Relay, Address, Flags, Rest, Bandwidths, Micro, Ed}
-use Rattle.relay_entries.specs.declared.said.EntryValue.{EntryValue}
+use Rattle.relay_entries.specs.declared.said.{Bandwidths.Bandwidths as BandwidthsSaid, EdOpinion.EdOpinion}
+use Rattle.relay_entries.specs.declared.said.EntryKind.{EntryKind, TheVariants.{Relay, Address, Flags, Rest}}
+use Rattle.relay_entries.specs.declared.said.{EntryKind.TheVariants.{Bandwidths, Micro, Ed}, EntryValue.EntryValue}
+use Rattle.relay_entries.specs.{declared.said.{MicroLine.MicroLine, RelayLine.RelayLine}, Fields.{identity, is_address}}
+use Rattle.relay_entries.specs.Fields.{with_argument, are_methods, ed_opinion}
 use Rattle.relay_entries.specs.declared.said.EntryValue.TheVariants as own
-use Rattle.relay_entries.specs.declared.said.MicroLine.{MicroLine}
-use Rattle.relay_entries.specs.declared.said.RelayLine.{RelayLine}
-use Rattle.relay_entries.specs.Fields.{identity, is_address, with_argument, are_methods, ed_opinion}
 
 -- a relay: nickname, identity, the digest of its descriptor, when that was published, IPv4 address, ORPort, DirPort
 abbrev pub relay_of : Item → Result RelayLine ℕ

@@ -4,20 +4,14 @@ use Rattle.std.specs.Prelude.{ℕ, ◌+◌, ◌-◌, ◌^◌, min, nat_lt, Bool,
 use Rattle.std.specs.Prelude.{if◌then◌else◌}
 use Rattle.std.specs.FinSet as set
 use Rattle.item_terms.specs.Items.{Item}
-use Rattle.dir_values.specs.Digests.{identity_below}
-use Rattle.dir_values.specs.declared.digest.Fingerprint.{Fingerprint}
-use Rattle.frame_terms.specs.declared.fault.FrameFault.{FrameFault}
-use Rattle.frame_terms.specs.declared.fault.FrameReason.{FrameReason}
-use Rattle.frame_terms.specs.declared.fault.FrameReason.TheVariants.{TooMany, Unsorted, DuplicateEd}
-use Rattle.frame_terms.specs.declared.row.Limit.TheVariants.{Entries}
-use Rattle.frame_terms.specs.Rows.{limit_number}
-use Rattle.relay_entries.specs.declared.listed.Listed.{Listed}
+use Rattle.dir_values.specs.{Digests.identity_below, declared.digest.Fingerprint.Fingerprint}
+use Rattle.frame_terms.specs.declared.fault.{FrameFault.FrameFault, FrameReason.{FrameReason, TheVariants.TooMany}}
+use Rattle.frame_terms.specs.declared.fault.FrameReason.TheVariants.{Unsorted, DuplicateEd}
+use Rattle.frame_terms.specs.{declared.row.Limit.TheVariants.Entries, Rows.limit_number}
+use Rattle.relay_entries.specs.declared.{listed.Listed.Listed, said.{EntryKind.EntryKind, EntryValue.EntryValue}}
+use Rattle.relay_entries.specs.declared.said.{EntryValue.TheVariants.{Relay, Ed}, RelayLine.RelayLine}
 use Rattle.relay_entries.specs.declared.said.EdOpinion.TheVariants as opinion
-use Rattle.relay_entries.specs.declared.said.EntryKind.{EntryKind}
 use Rattle.relay_entries.specs.declared.said.EntryKind.TheVariants as kind
-use Rattle.relay_entries.specs.declared.said.EntryValue.{EntryValue}
-use Rattle.relay_entries.specs.declared.said.EntryValue.TheVariants.{Relay, Ed}
-use Rattle.relay_entries.specs.declared.said.RelayLine.{RelayLine}
 
 -- no relay yet
 abbrev pub none_listed : Listed

@@ -1,13 +1,11 @@
 -- The items of an entry, in every document that lists relays (dir-spec, "Vote and consensus status document formats").
 use Rattle.std.specs.Prelude.{List, [], ◌∷◌, None}
 use Rattle.frame_terms.specs.declared.keyword.Keyword.TheVariants as the
-use Rattle.frame_terms.specs.declared.row.Count.TheVariants.{One, Optional, Many}
-use Rattle.frame_terms.specs.declared.row.Row.{Row}
-use Rattle.frame_terms.specs.declared.section.Again.TheVariants as again
-use Rattle.frame_terms.specs.declared.section.Shape.{Shape}
+use Rattle.frame_terms.specs.declared.{row.{Count.TheVariants.{One, Optional, Many}, Row.Row}, section.Shape.Shape}
 use Rattle.frame_terms.specs.Rows.{row}
-use Rattle.relay_entries.specs.declared.said.EntryKind.{EntryKind}
-use Rattle.relay_entries.specs.declared.said.EntryKind.TheVariants.{Relay, Address, Flags, Rest, Bandwidths, Micro, Ed}
+use Rattle.frame_terms.specs.declared.section.Again.TheVariants as again
+use Rattle.relay_entries.specs.declared.said.EntryKind.{EntryKind, TheVariants.{Relay, Address, Flags, Rest}}
+use Rattle.relay_entries.specs.declared.said.EntryKind.TheVariants.{Bandwidths, Micro, Ed}
 
 module _ {K : Type 0} where
   -- the items of an entry, in a document that has their kinds among its own; the first one opens it

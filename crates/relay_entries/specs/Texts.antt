@@ -1,15 +1,11 @@
 -- The texts of what documents that list relays say of a relay (dir-spec, "Vote and consensus status document formats").
-use Rattle.std.specs.Prelude.{ℕ, List, [], ◌∷◌, ◌++◌, map, codes, decimal, Option, Some, None}
-use Rattle.std.specs.List.{join_with_byte}
+use Rattle.std.specs.{Prelude.{ℕ, List, [], ◌∷◌, ◌++◌, map, codes, decimal, Option, Some, None}, List.join_with_byte}
 use Rattle.dir_bytes.specs.FieldTexts.{address_text, base64_text, moment_text}
-use Rattle.dir_values.specs.Digests.{digest1_text, digest2_text}
-use Rattle.dir_values.specs.declared.digest.Digest1.{Digest1}
-use Rattle.dir_values.specs.declared.digest.Digest2.{Digest2}
+use Rattle.dir_values.specs.{Digests.{digest1_text, digest2_text}, declared.digest.{Digest1.Digest1, Digest2.Digest2}}
 use Rattle.dir_values.specs.declared.digest.Fingerprint.{Fingerprint}
 use Rattle.frame_values.specs.Parts.{moment_of}
 use Rattle.item_terms.specs.Bytes.{comma, space}
-use Rattle.relay_entries.specs.declared.said.Bandwidths.{Bandwidths}
-use Rattle.relay_entries.specs.declared.said.EdOpinion.{EdOpinion}
+use Rattle.relay_entries.specs.declared.said.{Bandwidths.Bandwidths, EdOpinion.EdOpinion}
 use Rattle.relay_entries.specs.declared.said.EdOpinion.TheVariants as opinion
 
 -- who a relay is: its nickname and its identity

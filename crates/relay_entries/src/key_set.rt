@@ -1,6 +1,5 @@
 // A set of Ed25519 keys.
-ghost use Rattle.std.specs.Prelude.{◌≡◌, not, IfOk, OnOk, OnErr};
-ghost use Rattle.std.specs.Bool.{OnFalse};
+ghost use Rattle.std.specs.{Prelude.{◌≡◌, not, IfOk, OnOk, OnErr}, Bool.OnFalse};
 ghost use Rattle.std.specs.FinSet as set;
 
 use std::alloc::{AllocError, Global};
@@ -15,11 +14,9 @@ pub struct KeySet {
 }
 
 impl Model for KeySet {
-    ghost use Rattle.std.specs.Prelude.{ℕ, List};
-    ghost use Rattle.std.specs.Coded.{coded_ℕ, coded_list};
-    ghost use Rattle.std.specs.Cmp.Lexicographic.{slice_cmp};
-    ghost use Rattle.std.specs.FinSet as set;
+    ghost use Rattle.std.specs.{Prelude.{ℕ, List}, Coded.{coded_ℕ, coded_list}, Cmp.Lexicographic.slice_cmp};
     ghost use Rattle.std.specs.Ordering.{nat_cmp};
+    ghost use Rattle.std.specs.FinSet as set;
 
     ghost Value = { set.FinSet (slice_cmp nat_cmp) };
 

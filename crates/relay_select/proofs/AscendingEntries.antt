@@ -1,17 +1,12 @@
 -- Texts and entries that ascend.
-use Rattle.std.proofs.Common.{◌≡◌, ℕ, zero, suc, ◌+◌, ◌<◌, ◌≤◌, ◌⊎◌, Bool, true, false, ◌||◌, List, [], ◌∷◌, None, drop, refl, sym, ap, ◌∙◌, subst, inl, inr, ⊎_elim, arith}
-use Rattle.std.specs.Prelude.{All}
-use Rattle.std.specs.Str.{bytes_eq}
-use Rattle.std.specs.Cmp.Lexicographic.{bytes_decides}
-use Rattle.std.proofs.lemmas.Cmp.{nat_list_cmp_total, tied_itself}
-use Rattle.std.proofs.lemmas.Bool.{false≢true}
-use Rattle.std.proofs.lemmas.List.Elements.{All-nil, All-cons}
-use Rattle.dir_values.specs.declared.digest.Fingerprint.{Fingerprint}
-use Rattle.dir_values.specs.Digests.{is_less, bytes_below, identity_below}
-use Rattle.dir_values.specs.FlagSets.{has_flag, Ascend}
-use Rattle.dir_values.proofs.Orders.{below-trans, below_or_same, same_text, AllPairs-head, AllPairs-tail}
-use Rattle.vote_terms.specs.declared.entry.EntryFacts.{EntryFacts}
-use Rattle.vote_terms.specs.Entries.{Ascending}
+use Rattle.std.proofs.Common.{◌≡◌, ℕ, zero, suc, ◌+◌, ◌<◌, ◌≤◌, ◌⊎◌, Bool, true, false, ◌||◌, List, [], ◌∷◌, None, drop}
+use Rattle.std.proofs.{Common.{refl, sym, ap, ◌∙◌, subst, inl, inr, ⊎_elim, arith}, lemmas.Cmp.nat_list_cmp_total}
+use Rattle.std.{proofs.lemmas.{Cmp.tied_itself, Bool.false≢true, List.Elements.{All-nil, All-cons}}, specs.Prelude.All}
+use Rattle.std.specs.{Str.bytes_eq, Cmp.Lexicographic.bytes_decides}
+use Rattle.dir_values.specs.{declared.digest.Fingerprint.Fingerprint, Digests.{is_less, bytes_below, identity_below}}
+use Rattle.dir_values.{specs.FlagSets.{has_flag, Ascend}, proofs.Orders.{below-trans, below_or_same, same_text}}
+use Rattle.dir_values.proofs.Orders.{AllPairs-head, AllPairs-tail}
+use Rattle.vote_terms.specs.{declared.entry.EntryFacts.EntryFacts, Entries.Ascending}
 use Rattle.compute_terms.specs.Listings.{identities_of}
 use Rattle.relay_select.specs.Walks.{place_from}
 

@@ -1,19 +1,14 @@
 -- The places of the entries that belong to an identity, one vote after the other.
-use Rattle.std.proofs.Common.{◌≡◌, ℕ, ◌+◌, ◌≤◌, Bool, true, false, List, [], ◌∷◌, ◌++◌, Option, Some, None, length, drop, refl, sym, ap, ◌∙◌, subst, add-one, drop-cons, append_assoc}
-use Rattle.std.specs.Prelude.{All, IsSome, filter, slice_get}
-use Rattle.std.specs.Option.{option_to_list}
-use Rattle.std.proofs.lemmas.List.Elements.{filter-append, All-nil, All-cons, All-head, All-tail}
-use Rattle.std.proofs.lemmas.List.{append-nil, drop_all}
-use Rattle.std.proofs.lemmas.Option.{get_or_from_slice_get, slice_get_within}
+use Rattle.std.proofs.Common.{◌≡◌, ℕ, ◌+◌, ◌≤◌, Bool, true, false, List, [], ◌∷◌, ◌++◌, Option, Some, None, length}
+use Rattle.std.proofs.Common.{drop, refl, sym, ap, ◌∙◌, subst, add-one, drop-cons, append_assoc}
+use Rattle.std.proofs.lemmas.List.{Elements.{filter-append, All-nil, All-cons, All-head, All-tail}, append-nil}
+use Rattle.std.{proofs.lemmas.{List.drop_all, Option.{get_or_from_slice_get, slice_get_within}}, specs.Prelude.All}
+use Rattle.std.specs.{Prelude.{IsSome, filter, slice_get}, Option.option_to_list}
 use Rattle.vote_terms.specs.Votes.{ReadVote}
-use Rattle.compute_terms.specs.declared.belong.Belong.{Belong}
-use Rattle.compute_terms.specs.declared.identity.EdPart.{EdPart}
-use Rattle.compute_terms.specs.declared.identity.Identity.{Identity}
-use Rattle.compute_terms.specs.Listings.{Listing, listing_at, listings_at, listings, AreMembers}
-use Rattle.compute_terms.specs.Identities.{belongs}
+use Rattle.compute_terms.specs.declared.{belong.Belong.Belong, identity.{EdPart.EdPart, Identity.Identity}}
+use Rattle.compute_terms.specs.{Listings.{Listing, listing_at, listings_at, listings, AreMembers}, Identities.belongs}
 use Rattle.compute_terms.specs.Routers.{belonging_listings}
-use Rattle.relay_select.specs.Walks.{member_in, members_from}
-use Rattle.relay_select.specs.Choices.{belongs_at, belonging_places}
+use Rattle.relay_select.specs.{Walks.{member_in, members_from}, Choices.{belongs_at, belonging_places}}
 use Rattle.relay_select.proofs.Steps.{members_list}
 
 -- ---- all votes

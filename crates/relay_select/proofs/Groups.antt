@@ -1,27 +1,18 @@
 -- One step of the walk: the group of the least identity that stands first, and what is left behind it.
-use Rattle.std.proofs.Common.{◌≡◌, ℕ, ◌+◌, ◌<◌, ◌≤◌, ◌⊎◌, Bool, true, false, ◌||◌, List, [], ◌∷◌, ◌++◌, Option, Some, None, length, take, drop, map, replicate, refl, sym, ap, ◌∙◌, subst, inl, inr, ⊎_elim, arith}
-use Rattle.std.specs.Prelude.{if◌then◌else◌}
-use Rattle.std.specs.Option.{option_to_list}
-use Rattle.std.specs.List.{flat_map}
-use Rattle.std.specs.Str.{bytes_eq}
-use Rattle.std.proofs.lemmas.Cmp.{nat_list_cmp_total, tied_itself}
-use Rattle.std.proofs.lemmas.Bool.{false≢true}
-use Rattle.std.proofs.lemmas.Option.{same_Some}
-use Rattle.std.proofs.lemmas.List.{take-append-le}
-use Rattle.std.proofs.lemmas.List.Elements.{All-head, All-tail}
-use Rattle.dir_values.specs.declared.digest.Fingerprint.{Fingerprint}
-use Rattle.dir_values.specs.Digests.{is_less, identity_below, same_identity}
-use Rattle.dir_values.specs.FlagSets.{as_set}
-use Rattle.dir_values.proofs.Orders.{below-trans, below_or_same, same_text}
-use Rattle.vote_terms.specs.Votes.{ReadVote}
-use Rattle.vote_terms.specs.declared.entry.EntryFacts.{EntryFacts}
-use Rattle.vote_terms.specs.Entries.{Ascending}
-use Rattle.compute_terms.specs.declared.belong.Belong.{Belong}
-use Rattle.compute_terms.specs.Listings.{identities_of}
-use Rattle.relay_select.specs.Walks.{Walk, members_from, member_in, group_of, groups}
-use Rattle.relay_select.specs.Cursors.{Cursor, cursor_at, cursors, past, is_next, next_from, first_identity, lesser, least_from, left_of, group_left, groups_left, AllAscend}
-use Rattle.relay_select.proofs.AscendingEntries.{Below, itself, Above, weaker, above_first, ascending-drop}
-use Rattle.relay_select.proofs.LeftBehind.{At, taken, waits, AllAt, some_next, bytes_left, groups_step}
+use Rattle.std.proofs.Common.{◌≡◌, ℕ, ◌+◌, ◌<◌, ◌≤◌, ◌⊎◌, Bool, true, false, ◌||◌, List, [], ◌∷◌, ◌++◌, Option, Some}
+use Rattle.std.proofs.Common.{None, length, take, drop, map, replicate, refl, sym, ap, ◌∙◌, subst, inl, inr, ⊎_elim}
+use Rattle.std.proofs.{Common.arith, lemmas.{Cmp.{nat_list_cmp_total, tied_itself}, Bool.false≢true, Option.same_Some}}
+use Rattle.std.{proofs.lemmas.List.{take-append-le, Elements.{All-head, All-tail}}, specs.Prelude.if◌then◌else◌}
+use Rattle.std.specs.{Option.option_to_list, List.flat_map, Str.bytes_eq}
+use Rattle.dir_values.specs.{declared.digest.Fingerprint.Fingerprint, Digests.{is_less, identity_below, same_identity}}
+use Rattle.dir_values.{specs.FlagSets.as_set, proofs.Orders.{below-trans, below_or_same, same_text}}
+use Rattle.vote_terms.specs.{Votes.ReadVote, declared.entry.EntryFacts.EntryFacts, Entries.Ascending}
+use Rattle.compute_terms.specs.{declared.belong.Belong.Belong, Listings.identities_of}
+use Rattle.relay_select.specs.{Walks.{Walk, members_from, member_in, group_of, groups}, Cursors.{Cursor, cursor_at}}
+use Rattle.relay_select.specs.Cursors.{cursors, past, is_next, next_from, first_identity, lesser, least_from, left_of}
+use Rattle.relay_select.{specs.Cursors.{group_left, groups_left, AllAscend}, proofs.AscendingEntries.{Below, itself}}
+use Rattle.relay_select.proofs.{AscendingEntries.{Above, weaker, above_first, ascending-drop}, LeftBehind.{At, taken}}
+use Rattle.relay_select.proofs.LeftBehind.{waits, AllAt, some_next, bytes_left, groups_step}
 
 -- ---- the least identity that stands first
 

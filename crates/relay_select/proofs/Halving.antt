@@ -1,13 +1,12 @@
 -- Halving the entries of a vote, which ascend.
-use Rattle.std.proofs.Common.{◌≡◌, ℕ, zero, suc, ◌+◌, ◌-◌, ◌<◌, ◌≤◌, ◌⊎◌, true, false, List, [], ◌∷◌, Some, None, length, get_or, drop, refl, sym, ap, ◌∙◌, subst, ⊎_elim, add-one, drop-cons, arith}
+use Rattle.std.proofs.Common.{◌≡◌, ℕ, zero, suc, ◌+◌, ◌-◌, ◌<◌, ◌≤◌, ◌⊎◌, true, false, List, [], ◌∷◌, Some, None}
+use Rattle.std.proofs.Common.{length, get_or, drop, refl, sym, ap, ◌∙◌, subst, ⊎_elim, add-one, drop-cons, arith}
 use Rattle.std.proofs.lemmas.Bool.{cases_lt}
-use Rattle.dir_values.specs.declared.digest.Fingerprint.{Fingerprint}
-use Rattle.dir_values.specs.Digests.{identity_below, same_identity}
+use Rattle.dir_values.specs.{declared.digest.Fingerprint.Fingerprint, Digests.{identity_below, same_identity}}
 use Rattle.dir_values.proofs.Orders.{below-trans, below_or_same, same_text}
-use Rattle.vote_terms.specs.declared.entry.EntryFacts.{EntryFacts}
-use Rattle.vote_terms.specs.Entries.{Ascending}
-use Rattle.relay_select.specs.Walks.{place_from}
-use Rattle.relay_select.proofs.AscendingEntries.{Below, Above, above_first, ascending_tail, apart, apart_back}
+use Rattle.vote_terms.specs.{declared.entry.EntryFacts.EntryFacts, Entries.Ascending}
+use Rattle.relay_select.{specs.Walks.place_from, proofs.AscendingEntries.{Below, Above, above_first, ascending_tail}}
+use Rattle.relay_select.proofs.AscendingEntries.{apart, apart_back}
 
 above_at : (b : List ℕ) (es : List EntryFacts) (k : ℕ) (d : EntryFacts) → Above b es → k < length es → Below b (get_or es k d).identity.0
 above_at b [] k d a lt = absurd (omega (arith, lt))

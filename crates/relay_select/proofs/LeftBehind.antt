@@ -1,22 +1,14 @@
 -- What is left of each vote, and what is left behind the identity that stands first.
-use Rattle.std.proofs.Common.{◌≡◌, ℕ, ◌+◌, ◌<◌, ◌≤◌, Bool, true, false, ◌&&◌, ◌||◌, List, [], ◌∷◌, ◌++◌, map, refl, sym, ap, ◌∙◌, ⊎_elim}
-use Rattle.std.specs.Prelude.{All, option_map}
-use Rattle.std.specs.Option.{option_to_list}
-use Rattle.std.specs.List.{flat_map, list_any}
-use Rattle.std.specs.Str.{bytes_eq}
-use Rattle.std.proofs.lemmas.Bool.{false≢true}
-use Rattle.std.proofs.lemmas.List.Folds.{list_any-append}
-use Rattle.dir_values.specs.declared.digest.Fingerprint.{Fingerprint}
-use Rattle.dir_values.specs.FlagSets.{has_flag, as_set}
-use Rattle.dir_values.proofs.Orders.{same_text, AllPairs-cons}
-use Rattle.dir_values.proofs.Flags.{Ascend-as_set, has_flag-as_set}
+use Rattle.std.proofs.Common.{◌≡◌, ℕ, ◌+◌, ◌<◌, ◌≤◌, Bool, true, false, ◌&&◌, ◌||◌, List, [], ◌∷◌, ◌++◌, map, refl, sym}
+use Rattle.std.proofs.{Common.{ap, ◌∙◌, ⊎_elim}, lemmas.{Bool.false≢true, List.Folds.list_any-append}}
+use Rattle.std.specs.{Prelude.{All, option_map}, Option.option_to_list, List.{flat_map, list_any}, Str.bytes_eq}
+use Rattle.dir_values.specs.{declared.digest.Fingerprint.Fingerprint, FlagSets.{has_flag, as_set}}
+use Rattle.dir_values.proofs.{Orders.{same_text, AllPairs-cons}, Flags.{Ascend-as_set, has_flag-as_set}}
 use Rattle.vote_terms.specs.declared.entry.EntryFacts.{EntryFacts}
-use Rattle.compute_terms.specs.declared.belong.Belong.{Belong}
-use Rattle.compute_terms.specs.Listings.{identities_of}
-use Rattle.relay_select.specs.Walks.{Group, place_from}
-use Rattle.relay_select.specs.Cursors.{Cursor, past, is_next, next_in, next_from, left_of, group_left, groups_left}
-use Rattle.relay_select.proofs.AscendingEntries.{Below, itself, apart, or_cases, all_from, same_set, Above, above_has}
-use Rattle.relay_select.proofs.AscendingEntries.{no_place}
+use Rattle.compute_terms.specs.{declared.belong.Belong.Belong, Listings.identities_of}
+use Rattle.relay_select.specs.{Walks.{Group, place_from}, Cursors.{Cursor, past, is_next, next_in, next_from, left_of}}
+use Rattle.relay_select.{specs.Cursors.{group_left, groups_left}, proofs.AscendingEntries.{Below, itself, apart}}
+use Rattle.relay_select.proofs.AscendingEntries.{or_cases, all_from, same_set, Above, above_has, no_place}
 
 -- ---- what is left of each vote
 

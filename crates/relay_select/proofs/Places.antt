@@ -1,15 +1,13 @@
 -- Where a walk stands in each vote, by the number of the vote.
-use Rattle.std.proofs.Common.{◌≡◌, ℕ, zero, suc, ◌+◌, ◌<◌, ◌≤◌, Bool, true, false, cond, List, Some, None, [], ◌∷◌, ◌++◌, length, get_or, drop, map, refl, sym, ap, ◌∙◌, add-one, arith}
-use Rattle.std.proofs.Common.{append_assoc, drop-cons, drop-drop, set, ⊎_elim, ◌⊎◌}
-use Rattle.std.proofs.lemmas.Bool.{cases_lt}
-use Rattle.std.proofs.lemmas.List.{append-nil, get_or-set_same, get_or-set_other}
-use Rattle.std.proofs.lemmas.Option.{same_Some, slice_get_read}
-use Rattle.dir_values.specs.declared.digest.Fingerprint.{Fingerprint}
-use Rattle.dir_values.specs.Digests.{same_identity}
+use Rattle.std.proofs.Common.{◌≡◌, ℕ, zero, suc, ◌+◌, ◌<◌, ◌≤◌, Bool, true, false, cond, List, Some, None, [], ◌∷◌}
+use Rattle.std.proofs.Common.{◌++◌, length, get_or, drop, map, refl, sym, ap, ◌∙◌, add-one, arith, append_assoc}
+use Rattle.std.proofs.{Common.{drop-cons, drop-drop, set, ⊎_elim, ◌⊎◌}, lemmas.{Bool.cases_lt, List.append-nil}}
+use Rattle.std.proofs.lemmas.{List.{get_or-set_same, get_or-set_other}, Option.{same_Some, slice_get_read}}
+use Rattle.dir_values.specs.{declared.digest.Fingerprint.Fingerprint, Digests.same_identity}
 use Rattle.compute_terms.specs.declared.belong.Belong.{Belong}
-use Rattle.vote_terms.specs.Votes.{ReadVote}
-use Rattle.vote_terms.specs.declared.entry.EntryFacts.{EntryFacts}
-use Rattle.relay_select.specs.Cursors.{Cursor, cursor_at, cursors, entries_in, past, place_past, Taken, is_next, next_from, first_identity, lesser, least_from}
+use Rattle.vote_terms.specs.{Votes.ReadVote, declared.entry.EntryFacts.EntryFacts}
+use Rattle.relay_select.specs.Cursors.{Cursor, cursor_at, cursors, entries_in, past, place_past, Taken, is_next}
+use Rattle.relay_select.specs.Cursors.{next_from, first_identity, lesser, least_from}
 
 abbrev pub cursor_with : List ReadVote → List ℕ → ℕ → Cursor
 cursor_with votes places n = record { place = get_or places n 0; rest = drop (get_or places n 0) (entries_in votes n) }

@@ -1,14 +1,11 @@
 -- The groups of a walk, and the lines that they give.
-use Rattle.std.proofs.Common.{◌≡◌, ℕ, zero, suc, ◌+◌, ◌<◌, Bool, true, false, List, [], ◌∷◌, ◌++◌, Option, Some, None, drop, map, refl, sym, ap, ◌∙◌, subst, add-one, append_assoc, arith}
-use Rattle.std.specs.Prelude.{All, IsSome, slice_get}
-use Rattle.std.specs.Option.{option_to_list}
-use Rattle.std.specs.List.{filter_map, find, cons_option}
-use Rattle.dir_values.specs.declared.digest.Fingerprint.{Fingerprint}
-use Rattle.dir_values.specs.Digests.{same_identity}
-use Rattle.vote_terms.specs.Votes.{ReadVote}
-use Rattle.vote_terms.specs.declared.entry.EntryFacts.{EntryFacts}
-use Rattle.compute_terms.specs.declared.belong.Belong.{Belong}
-use Rattle.compute_terms.specs.Listings.{Listing, entry_of, listing_in, listings, listing_at, listings_at, AreMembers}
+use Rattle.std.proofs.Common.{◌≡◌, ℕ, zero, suc, ◌+◌, ◌<◌, Bool, true, false, List, [], ◌∷◌, ◌++◌, Option, Some, None}
+use Rattle.std.{proofs.Common.{drop, map, refl, sym, ap, ◌∙◌, subst, add-one, append_assoc, arith}, specs.Prelude.All}
+use Rattle.std.specs.{Prelude.{IsSome, slice_get}, Option.option_to_list, List.{filter_map, find, cons_option}}
+use Rattle.dir_values.specs.{declared.digest.Fingerprint.Fingerprint, Digests.same_identity}
+use Rattle.vote_terms.specs.{Votes.ReadVote, declared.entry.EntryFacts.EntryFacts}
+use Rattle.compute_terms.specs.{declared.belong.Belong.Belong, Listings.{Listing, entry_of, listing_in, listings}}
+use Rattle.compute_terms.specs.Listings.{listing_at, listings_at, AreMembers}
 use Rattle.relay_select.specs.Walks.{Group, place_from, member_in, members_from, group_of}
 
 -- ---- the entry of an identity, by its place

@@ -1,18 +1,11 @@
 -- What is chosen of what entries say of a relay (dir-spec, "Computing a consensus from a set of votes").
-use Rattle.std.specs.Prelude.{ℕ, Bool, false, List, filter}
-use Rattle.std.specs.Option.{option_map_or}
-use Rattle.vote_terms.specs.Votes.{ReadVote}
-use Rattle.vote_terms.specs.declared.entry.EntryFacts.{EntryFacts}
-use Rattle.compute_terms.specs.declared.belong.Belong.{Belong}
-use Rattle.compute_terms.specs.declared.identity.EdPart.{EdPart}
-use Rattle.compute_terms.specs.declared.identity.Identity.{Identity}
-use Rattle.compute_terms.specs.Listings.{Listing, listings, listing_at, entries_of}
-use Rattle.compute_terms.specs.Identities.{belongs}
-use Rattle.compute_terms.specs.Routers.{belonging_listings}
-use Rattle.compute_terms.specs.Tuples.{Tuple}
-use Rattle.compute_terms.specs.Lines.{chosen_version, chosen_protocols, chosen_policy, chosen_micro, chosen_address}
-use Rattle.relay_select.specs.Walks.{members_from}
-use Rattle.relay_select.specs.declared.choice.Choice.{Choice}
+use Rattle.std.specs.{Prelude.{ℕ, Bool, false, List, filter}, Option.option_map_or}
+use Rattle.vote_terms.specs.{Votes.ReadVote, declared.entry.EntryFacts.EntryFacts}
+use Rattle.compute_terms.specs.declared.{belong.Belong.Belong, identity.{EdPart.EdPart, Identity.Identity}}
+use Rattle.compute_terms.specs.{Listings.{Listing, listings, listing_at, entries_of}, Identities.belongs}
+use Rattle.compute_terms.specs.{Routers.belonging_listings, Tuples.Tuple, Lines.{chosen_version, chosen_protocols}}
+use Rattle.compute_terms.specs.Lines.{chosen_policy, chosen_micro, chosen_address}
+use Rattle.relay_select.specs.{Walks.members_from, declared.choice.Choice.Choice}
 
 -- whether the entry at a place belongs to an identity with this part
 abbrev pub belongs_at : List ReadVote → EdPart → Belong → Bool

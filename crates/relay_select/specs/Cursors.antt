@@ -1,15 +1,11 @@
 -- Where a walk stands in each vote.
-use Rattle.std.specs.Prelude.{All, ◌≡◌, ◌<◌, ◌≤◌, ℕ, ◌+◌, Bool, false, ◌&&◌, List, [], ◌∷◌, ◌++◌, drop, map, Option, Some, None, option_map, slice_get, slice_index, if◌then◌else◌}
-use Rattle.std.specs.Option.{option_to_list, option_map_or}
-use Rattle.std.specs.List.{flat_map}
-use Rattle.dir_values.specs.declared.digest.Fingerprint.{Fingerprint}
-use Rattle.dir_values.specs.Digests.{same_identity, identity_below}
+use Rattle.std.specs.Prelude.{All, ◌≡◌, ◌<◌, ◌≤◌, ℕ, ◌+◌, Bool, false, ◌&&◌, List, [], ◌∷◌, ◌++◌, drop, map, Option}
+use Rattle.std.specs.{Prelude.{Some, None, option_map, slice_get, slice_index, if◌then◌else◌}, Option.option_to_list}
+use Rattle.std.specs.{Option.option_map_or, List.flat_map}
+use Rattle.dir_values.specs.{declared.digest.Fingerprint.Fingerprint, Digests.{same_identity, identity_below}}
 use Rattle.dir_values.specs.FlagSets.{as_set}
-use Rattle.vote_terms.specs.Votes.{ReadVote}
-use Rattle.vote_terms.specs.declared.entry.EntryFacts.{EntryFacts}
-use Rattle.vote_terms.specs.Entries.{Ascending}
-use Rattle.compute_terms.specs.declared.belong.Belong.{Belong}
-use Rattle.compute_terms.specs.Listings.{identities_of}
+use Rattle.vote_terms.specs.{Votes.ReadVote, declared.entry.EntryFacts.EntryFacts, Entries.Ascending}
+use Rattle.compute_terms.specs.{declared.belong.Belong.Belong, Listings.identities_of}
 use Rattle.relay_select.specs.Walks.{Group, place_from}
 
 -- what is left of a vote: the place of the next entry, and the entries from there on

@@ -2,8 +2,7 @@
 use Rattle.std.specs.Prelude.{ℕ, List, Option}
 use Rattle.vote_terms.specs.declared.entry.EntryFacts.{EntryFacts}
 use Rattle.compute_terms.specs.Lines.{policy_with}
-use Rattle.relay_select.specs.declared.lines.Field.{Field}
-use Rattle.relay_select.specs.declared.lines.Field.TheVariants.{Protocols, Policy}
+use Rattle.relay_select.specs.declared.lines.Field.{Field, TheVariants.{Protocols, Policy}}
 
 abbrev pub field_text : Field → EntryFacts → Option (List ℕ)
 field_text Protocols e = e.protocols

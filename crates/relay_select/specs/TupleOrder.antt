@@ -1,17 +1,11 @@
 -- The order of tuples is total, and tuples that tie are one.
-use Rattle.std.specs.Prelude.{◌≡◌, ℕ, ◌<◌, List}
-use Rattle.std.proofs.Common.{ap, refl, sym, ◌∙◌}
-use Rattle.dir_values.specs.declared.digest.Digest1.{Digest1}
-use Rattle.dir_values.specs.declared.digest.Digest2.{Digest2}
-use Rattle.compute_terms.specs.Lines.{digest_order}
-use Rattle.std.specs.declared.cmp.Ordering.{Ordering}
-use Rattle.std.specs.declared.cmp.Ordering.TheVariants.{Less, Equal, Greater}
-use Rattle.std.specs.Cmp.{IsTotalOrder}
-use Rattle.std.specs.Ordering.{nat_cmp, ordering_then}
-use Rattle.std.proofs.lemmas.Cmp.{nat_cmp_total, nat_list_cmp_total, on_total, then_total, back_total, ranked, by_ranked}
-use Rattle.compute_terms.specs.Tuples.{Tuple, address_order, tuple_order}
+use Rattle.std.specs.{Prelude.{◌≡◌, ℕ, ◌<◌, List}, declared.cmp.Ordering.{Ordering, TheVariants.{Less, Equal, Greater}}}
+use Rattle.std.{specs.{Cmp.IsTotalOrder, Ordering.{nat_cmp, ordering_then}}, proofs.Common.{ap, refl, sym, ◌∙◌}}
+use Rattle.std.proofs.lemmas.Cmp.{nat_cmp_total, nat_list_cmp_total, on_total, then_total, back_total, ranked}
+use Rattle.std.proofs.lemmas.Cmp.{by_ranked}
+use Rattle.dir_values.{specs.declared.digest.Digest2.Digest2, proofs.VersionOrders.texts_tie}
+use Rattle.compute_terms.specs.{Lines.digest_order, Tuples.{Tuple, address_order, tuple_order}}
 use Rattle.count_terms.specs.Choosing.{text_order}
-use Rattle.dir_values.proofs.VersionOrders.{texts_tie}
 
 address_total : IsTotalOrder address_order
 address_total =
@@ -38,9 +32,6 @@ numbers_tie a b e = by_ranked (a < b) (a ≡ b) (b < a) (nat_cmp a b) (ranked a 
 
     greater : Greater ≡ Equal → ⊥
     greater h = cc
-
-same_digest : (a b : Digest1) → a.0 ≡ b.0 → a ≡ b
-same_digest a b e = ap (λ (bytes : List ℕ). record { 0 = bytes }) e
 
 -- The parts of two tuples are the same.
 record SameParts (a b : Tuple) : Type 0 where

@@ -1,6 +1,5 @@
 // What is chosen of what entries say of a relay.
-ghost use Rattle.std.specs.Prelude.{◌≡◌, ◌≤◌, Some, IfOk, IfSome, IsSome, option_map, length};
-ghost use Rattle.std.specs.List.{filter_map};
+ghost use Rattle.std.specs.{Prelude.{◌≡◌, ◌≤◌, Some, IfOk, IfSome, IsSome, option_map, length}, List.filter_map};
 ghost use Rattle.dir_bytes.specs.Causes.{last_moment};
 ghost use Rattle.dir_values.specs.Versions.{named_order};
 ghost use Rattle.count_terms.specs.Choosing.{chosen, text_order};

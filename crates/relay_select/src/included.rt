@@ -1,6 +1,5 @@
 // The identities that a consensus includes.
-ghost use Rattle.std.specs.Prelude.{◌≡◌, ◌++◌, IfOk, OnOk, option_map, OnErr};
-ghost use Rattle.std.specs.Option.{option_to_list};
+ghost use Rattle.std.specs.{Prelude.{◌≡◌, ◌++◌, IfOk, OnOk, option_map, OnErr}, Option.option_to_list};
 ghost use Rattle.compute_terms.specs.Identities as terms;
 
 use crate::members::eds_at;

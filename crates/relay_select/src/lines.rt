@@ -1,7 +1,5 @@
 // The lines of entries, from which one is chosen.
-ghost use Rattle.std.specs.Prelude.{◌≡◌, ◌++◌, OnOk, option_map, OnErr};
-ghost use Rattle.std.specs.Option.{option_to_list};
-ghost use Rattle.std.specs.List.{filter_map};
+ghost use Rattle.std.specs.{Prelude.{◌≡◌, ◌++◌, OnOk, option_map, OnErr}, Option.option_to_list, List.filter_map};
 ghost use Rattle.compute_terms.specs.Lines as terms;
 ghost use Rattle.relay_select.specs.Fields as fields;
 

@@ -20,8 +20,7 @@ pub struct Merge<'a> {
 
 impl<'a> Model for Merge<'a> {
     ghost use Rattle.std.specs.Prelude.{◌≡◌, length};
-    ghost use Rattle.relay_select.specs.Walks.{Walk};
-    ghost use Rattle.relay_select.specs.Cursors.{cursors, groups_left, AllAscend};
+    ghost use Rattle.relay_select.specs.{Walks.Walk, Cursors.{cursors, groups_left, AllAscend}};
 
     ghost Value = { Walk };
 

@@ -1,10 +1,8 @@
 // The entries that belong to an identity.
 ghost use Rattle.std.specs.Prelude.{◌≡◌, ◌<◌, ◌++◌, Some, IfOk, OnOk, length, filter, slice_get, OnErr};
 ghost use Rattle.std.specs.Option.{option_to_list};
-ghost use Rattle.compute_terms.specs.Listings.{AreMembers, listings, listings_at};
-ghost use Rattle.compute_terms.specs.Routers.{belonging_listings};
-ghost use Rattle.relay_select.specs.Walks.{member_in};
-ghost use Rattle.relay_select.specs.Choices.{belongs_at, belonging_places};
+ghost use Rattle.compute_terms.specs.{Listings.{AreMembers, listings, listings_at}, Routers.belonging_listings};
+ghost use Rattle.relay_select.specs.{Walks.member_in, Choices.{belongs_at, belonging_places}};
 
 use crate::halves::place_of;
 use crate::parts::belongs;

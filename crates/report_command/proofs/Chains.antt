@@ -1,20 +1,17 @@
 -- Votes read one after the other, up to the line.
 use Rattle.std.proofs.Common.{◌≡◌, ℕ, zero, suc, ◌+◌, ◌-◌, ◌≤◌, List, [], ◌∷◌, ◌++◌, length, drop, Result, Ok, Err}
-use Rattle.std.proofs.Common.{refl, ap, sym, ◌∙◌, arith, length-drop}
-use Rattle.std.proofs.Common.{append_assoc, append-nil}
-use Rattle.frame_terms.specs.declared.fault.FrameFault.{FrameFault}
-use Rattle.frame_terms.specs.declared.fault.ReadRefusal.TheVariants.{Frame}
+use Rattle.std.proofs.Common.{refl, ap, sym, ◌∙◌, arith, length-drop, append_assoc, append-nil}
+use Rattle.frame_terms.specs.declared.fault.{FrameFault.FrameFault, ReadRefusal.TheVariants.Frame}
 use Rattle.vote_parts.proofs.VoteFaults.{fault_of_vote}
 use Rattle.vote_terms.specs.Votes.{ReadVote}
 use Rattle.blank_lines.specs.Behind.{behind, refusal_behind}
 use Rattle.vote_doc.specs.Reading.{ReadsVote, vote_from, vote_of}
 use Rattle.daemon_words.specs.declared.stop.Stop.{Stop}
 use Rattle.daemon_words.specs.declared.stop.Stop.TheVariants as stop
-use Rattle.report_command.specs.declared.refusal.InputRefusal.{InputRefusal}
+use Rattle.report_command.specs.{declared.refusal.InputRefusal.InputRefusal, Inputs.{ahead_at, of_vote, too_many}}
+use Rattle.report_command.specs.{Inputs.{votes_from, with_front}, Private.ReadsVoteAt}
 use Rattle.report_command.specs.declared.refusal.InputRefusal.TheVariants as input
 use Rattle.report_command.specs.declared.reading.Ahead.TheVariants as ahead
-use Rattle.report_command.specs.Inputs.{ahead_at, of_vote, too_many, votes_from, with_front}
-use Rattle.report_command.specs.Private.{ReadsVoteAt}
 
 abbrev pub Read : Type 0
 Read = Result (List ReadVote × ℕ) (Stop InputRefusal)

@@ -1,24 +1,19 @@
 -- The line in front of the consensus stands within the input, and so does the first fault of what follows it.
-use Rattle.std.proofs.Common.{◌≡◌, ℕ, zero, suc, ◌+◌, ◌<◌, Bool, true, false, List, [], ◌∷◌, length, drop, take}
-use Rattle.std.proofs.Common.{Option, Some, None, Result, Ok, Err, arith, length-drop, refl, subst}
+use Rattle.std.proofs.Common.{◌≡◌, ℕ, zero, suc, ◌+◌, ◌<◌, Bool, true, false, List, [], ◌∷◌, length, drop, take, Option}
+use Rattle.std.proofs.{Common.{Some, None, Result, Ok, Err, arith, length-drop, refl, subst}, lemmas.Bool.ltb-true}
 use Rattle.std.specs.Prelude.{◌&&◌, IfSome, if◌then◌else◌, nat_lt, option_and_then}
-use Rattle.std.proofs.lemmas.Bool.{ltb-true}
-use Rattle.item_terms.specs.Items.{Item}
-use Rattle.item_terms.specs.declared.fault.DocFault.{DocFault}
+use Rattle.item_terms.specs.{Items.Item, declared.fault.DocFault.DocFault}
 use Rattle.dirdoc_grammar.specs.Reading.{first_line, first_line_len}
-use Rattle.blank_lines.specs.Blanks.{after_blanks}
-use Rattle.blank_lines.specs.Ends.{ends_at}
+use Rattle.blank_lines.specs.{Blanks.after_blanks, Ends.ends_at}
 use Rattle.frame_terms.specs.declared.fault.FrameFault.{FrameFault}
 use Rattle.vote_terms.specs.Votes.{ReadVote}
 use Rattle.vote_doc.specs.Reading.{vote_from}
 use Rattle.daemon_words.specs.declared.stop.Stop.{Stop}
-use Rattle.report_command.specs.declared.reading.Ahead.{Ahead}
+use Rattle.report_command.specs.{declared.{reading.Ahead.Ahead, refusal.InputRefusal.InputRefusal}, Inputs.ahead_at}
+use Rattle.report_command.specs.Inputs.{by_ahead, by_first, first_at, if_line, is_line, is_line_text, line_place}
+use Rattle.report_command.specs.Inputs.{line_size, most_votes, of_vote, then_votes, too_many, unless_line, votes_from}
+use Rattle.report_command.{specs.Inputs.{votes_of, with_front}, proofs.Chains.Read}
 use Rattle.report_command.specs.declared.reading.Ahead.TheVariants as ahead
-use Rattle.report_command.specs.declared.refusal.InputRefusal.{InputRefusal}
-use Rattle.report_command.specs.Inputs.{ahead_at, by_ahead, by_first, first_at, if_line, is_line, is_line_text, line_place}
-use Rattle.report_command.specs.Inputs.{line_size, most_votes, of_vote, then_votes, too_many, unless_line, votes_from, votes_of}
-use Rattle.report_command.specs.Inputs.{with_front}
-use Rattle.report_command.proofs.Chains.{Read}
 
 -- ---- the line
 

@@ -1,12 +1,10 @@
 -- The first line of some bytes, as a search finds its end; and that the first line that is not blank stands behind the place where it is
 -- sought.
-use Rattle.std.proofs.Common.{◌≡◌, ℕ, ◌+◌, ◌≤◌, ◌&&◌, Bool, ltb, true, false, List, [], ◌∷◌, length, take, drop, Some, None}
-use Rattle.std.proofs.Common.{refl, ap, ◌∙◌, arith, if◌then◌else◌}
-use Rattle.std.proofs.lemmas.Bool.{lt-ltb, le-ltb}
+use Rattle.std.proofs.Common.{◌≡◌, ℕ, ◌+◌, ◌≤◌, ◌&&◌, Bool, ltb, true, false, List, [], ◌∷◌, length, take, drop, Some}
+use Rattle.std.proofs.{Common.{None, refl, ap, ◌∙◌, arith, if◌then◌else◌}, lemmas.Bool.{lt-ltb, le-ltb}}
 use Rattle.memchr.specs.Find.{IsFirstByte, is_byte}
 use Rattle.item_terms.specs.Lines.{Line, lines, size}
-use Rattle.dirdoc_grammar.specs.Reading.{first_line, first_line_len}
-use Rattle.dirdoc_grammar.proofs.FirstByte.{before_found, before_none}
+use Rattle.dirdoc_grammar.{specs.Reading.{first_line, first_line_len}, proofs.FirstByte.{before_found, before_none}}
 use Rattle.blank_lines.specs.Blanks.{after_blanks, first_other, is_blank}
 use Rattle.report_command.specs.Inputs.{is_line, is_line_text}
 

@@ -1,20 +1,17 @@
 -- Acceptable votes with their consensus are not refused.
-use Rattle.std.proofs.Common.{◌≡◌, ◌∙◌, ℕ, List, Some, Err, ap, sym, subst, refl}
-use Rattle.std.specs.Prelude.{slice_get}
+use Rattle.std.{proofs.Common.{◌≡◌, ◌∙◌, ℕ, List, Some, Err, ap, sym, subst, refl}, specs.Prelude.slice_get}
 use Rattle.frame_terms.specs.declared.fault.FrameFault.{FrameFault}
 use Rattle.key_port.specs.Answers.{Rules}
-use Rattle.vote_terms.specs.Acceptable.{IsAcceptable, RefusesNone}
-use Rattle.vote_terms.specs.Votes.{ReadVote}
+use Rattle.vote_terms.specs.{Acceptable.{IsAcceptable, RefusesNone}, Votes.ReadVote}
 use Rattle.compute_command.proofs.NotRefused.{at, not_refused_by}
 use Rattle.consensus_doc.specs.Reading.{consensus_of}
 use Rattle.consensus_terms.specs.declared.consensus.SignedConsensus.{SignedConsensus}
 use Rattle.daemon_words.specs.declared.report.Report.{Report}
 use Rattle.report_command.specs.declared.refusal.NoReport.TheVariants as report
-use Rattle.report_command.specs.declared.refusal.ReportRefusal.{ReportRefusal}
-use Rattle.report_command.specs.declared.refusal.ReportRefusal.TheVariants as refusal
-use Rattle.report_command.specs.Answers.{CanReport, ConsensusFails, Reads, ReportAnswers}
-use Rattle.report_command.specs.Inputs.{rest_from, votes_of}
+use Rattle.report_command.specs.{declared.refusal.ReportRefusal.ReportRefusal, Answers.{CanReport, ConsensusFails}}
+use Rattle.report_command.specs.{Answers.{Reads, ReportAnswers}, Inputs.{rest_from, votes_of}}
 use Rattle.report_command.proofs.OneReading.{not_both, one_value}
+use Rattle.report_command.specs.declared.refusal.ReportRefusal.TheVariants as refusal
 
 -- what an input is read as is one thing
 one_reading : (bytes : List ℕ) (l m : List ReadVote) (r s : List ℕ) (c d : SignedConsensus) (one : Reads bytes l r c)

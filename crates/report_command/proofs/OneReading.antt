@@ -1,6 +1,5 @@
 -- An answer is one, and not two.
-use Rattle.std.proofs.Common.{◌≡◌, Bool, true, false, Result, Ok, Err, sym, ap, ◌∙◌}
-use Rattle.std.proofs.lemmas.Bool.{false≢true}
+use Rattle.std.proofs.{Common.{◌≡◌, Bool, true, false, Result, Ok, Err, sym, ap, ◌∙◌}, lemmas.Bool.false≢true}
 
 module _ {A E : Type 0} where
   abbrev is_ok : Result A E → Bool

@@ -1,27 +1,22 @@
 -- The command that writes a health report.
 use Rattle.std.specs.Prelude.{◌≡◌, ◌≢◌, ◌⊎◌, ℕ, List, All, Result, Ok, Err}
 use Rattle.dir_bytes.specs.FieldTexts.{moment_text}
-use Rattle.frame_terms.specs.declared.fault.FrameFault.{FrameFault}
-use Rattle.frame_terms.specs.declared.fault.ReadRefusal.TheVariants.{Frame}
+use Rattle.frame_terms.specs.declared.fault.{FrameFault.FrameFault, ReadRefusal.TheVariants.Frame}
 use Rattle.key_port.specs.Answers.{Rules}
-use Rattle.vote_terms.specs.Acceptable.{AsksOf, IsAcceptable, IsFirstRefused, RefusesNone}
-use Rattle.vote_terms.specs.Held.{held}
-use Rattle.vote_terms.specs.Votes.{ReadVote}
+use Rattle.vote_terms.specs.{Acceptable.{AsksOf, IsAcceptable, IsFirstRefused, RefusesNone}, Held.held, Votes.ReadVote}
 use Rattle.vote_terms.specs.declared.word.VoteWord.{VoteWord}
 use Rattle.blank_lines.specs.Behind.{fault_behind}
 use Rattle.consensus_doc.specs.Reading.{consensus_of}
 use Rattle.consensus_terms.specs.declared.consensus.SignedConsensus.{SignedConsensus}
 use Rattle.consensus_terms.specs.declared.flavour.Flavour.TheVariants.{Microdesc, Ns}
-use Rattle.daemon_words.specs.declared.stop.Stop.{Stop}
+use Rattle.daemon_words.specs.declared.{stop.Stop.Stop, report.Report.Report}
 use Rattle.daemon_words.specs.declared.stop.Stop.TheVariants as stop
 use Rattle.report_command.specs.declared.refusal.InputRefusal.TheVariants as input
-use Rattle.report_command.specs.declared.refusal.MomentText.{MomentText}
+use Rattle.report_command.specs.{declared.refusal.{MomentText.MomentText, ReportRefusal.ReportRefusal}, Inputs.votes_of}
+use Rattle.report_command.specs.Inputs.{rest_from}
 use Rattle.report_command.specs.declared.refusal.NoReport.TheVariants as report
-use Rattle.report_command.specs.declared.refusal.ReportRefusal.{ReportRefusal}
 use Rattle.report_command.specs.declared.refusal.ReportRefusal.TheVariants as refusal
-use Rattle.daemon_words.specs.declared.report.Report.{Report}
 use Rattle.health_report.specs.Reports.{IsReport}
-use Rattle.report_command.specs.Inputs.{votes_of, rest_from}
 
 -- each of these votes is acceptable
 abbrev pub AreAcceptable : Rules → Report → List ReadVote → Type 0

@@ -1,27 +1,21 @@
 -- The input of the command: votes, one after the other, the line `report-consensus`, and a consensus to the input's end.
-use Rattle.std.specs.Prelude.{ℕ, ◌+◌, zero, suc, Bool, ◌&&◌, List, [], ◌∷◌, ◌++◌, length, drop, take}
-use Rattle.std.specs.Prelude.{slice_range, Option, Some, None, Result, Ok, Err, codes, option_and_then, unwrap_or, if◌then◌else◌}
+use Rattle.std.specs.Prelude.{ℕ, ◌+◌, zero, suc, Bool, ◌&&◌, List, [], ◌∷◌, ◌++◌, length, drop, take, slice_range}
+use Rattle.std.specs.Prelude.{Option, Some, None, Result, Ok, Err, codes, option_and_then, unwrap_or, if◌then◌else◌}
 use Rattle.std.specs.Str.{bytes_eq}
-use Rattle.item_terms.specs.Items.{Item, items_from, no_limit}
-use Rattle.item_terms.specs.Lines.{Line}
-use Rattle.item_terms.specs.declared.fault.DocFault.{DocFault}
+use Rattle.item_terms.specs.{Items.{Item, items_from, no_limit}, Lines.Line, declared.fault.DocFault.DocFault}
 use Rattle.dirdoc_grammar.specs.Reading.{first_line}
-use Rattle.blank_lines.specs.Blanks.{after_blanks}
-use Rattle.blank_lines.specs.Ends.{ends_at}
-use Rattle.frame_terms.specs.declared.fault.FrameFault.{FrameFault}
-use Rattle.frame_terms.specs.declared.fault.FrameReason.TheVariants.{Doc, TooMany}
-use Rattle.frame_terms.specs.declared.fault.ReadRefusal.{ReadRefusal}
-use Rattle.frame_terms.specs.declared.fault.ReadRefusal.TheVariants as read
-use Rattle.frame_terms.specs.declared.row.Limit.TheVariants.{Votes}
+use Rattle.blank_lines.specs.{Blanks.after_blanks, Ends.ends_at}
+use Rattle.frame_terms.specs.declared.fault.{FrameFault.FrameFault, FrameReason.TheVariants.{Doc, TooMany}}
+use Rattle.frame_terms.specs.declared.{fault.ReadRefusal.ReadRefusal, row.Limit.TheVariants.Votes}
 use Rattle.frame_terms.specs.Decisions.{first_fault}
+use Rattle.frame_terms.specs.declared.fault.ReadRefusal.TheVariants as read
 use Rattle.vote_terms.specs.Votes.{ReadVote}
 use Rattle.vote_doc.specs.Reading.{vote_from}
 use Rattle.vote_frame.specs.Tables.{vote_tables}
 use Rattle.daemon_words.specs.declared.stop.Stop.{Stop}
 use Rattle.daemon_words.specs.declared.stop.Stop.TheVariants as stop
-use Rattle.report_command.specs.declared.refusal.InputRefusal.{InputRefusal}
+use Rattle.report_command.specs.declared.{refusal.InputRefusal.InputRefusal, reading.Ahead.Ahead}
 use Rattle.report_command.specs.declared.refusal.InputRefusal.TheVariants as input
-use Rattle.report_command.specs.declared.reading.Ahead.{Ahead}
 use Rattle.report_command.specs.declared.reading.Ahead.TheVariants as ahead
 
 -- ---- what comes next

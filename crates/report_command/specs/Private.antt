@@ -1,10 +1,7 @@
 -- What the private functions of this crate return.
-use Rattle.std.specs.Prelude.{◌≡◌, ◌≢◌, ◌≤◌, ℕ, List, length, Result, Ok, Err}
-use Rattle.std.specs.Global.{Vec}
+use Rattle.std.specs.{Prelude.{◌≡◌, ◌≢◌, ◌≤◌, ℕ, List, length, Result, Ok, Err}, Global.Vec}
 use Rattle.dir_bytes.specs.FieldTexts.{moment_text}
-use Rattle.frame_terms.specs.declared.fault.FrameFault.{FrameFault}
-use Rattle.frame_terms.specs.declared.fault.ReadRefusal.{ReadRefusal}
-use Rattle.frame_terms.specs.declared.fault.ReadRefusal.TheVariants.{Frame}
+use Rattle.frame_terms.specs.declared.fault.{FrameFault.FrameFault, ReadRefusal.{ReadRefusal, TheVariants.Frame}}
 use Rattle.frame_terms.specs.Refusals.{Fails}
 use Rattle.key_port.specs.Answers.{Rules}
 use Rattle.vote_terms.specs.Votes.{ReadVote}
@@ -13,15 +10,13 @@ use Rattle.vote_doc.specs.Reading.{vote_from}
 use Rattle.consensus_doc.specs.Reading.{consensus_of}
 use Rattle.consensus_terms.specs.declared.consensus.SignedConsensus.{SignedConsensus}
 use Rattle.consensus_terms.specs.declared.flavour.Flavour.TheVariants.{Microdesc, Ns}
-use Rattle.daemon_words.specs.declared.stop.Stop.{Stop}
+use Rattle.daemon_words.specs.declared.{stop.Stop.Stop, report.Report.Report}
 use Rattle.daemon_words.specs.declared.stop.Stop.TheVariants as stop
-use Rattle.report_command.specs.declared.refusal.InputRefusal.{InputRefusal}
-use Rattle.report_command.specs.declared.refusal.NoReport.TheVariants as report
-use Rattle.report_command.specs.declared.refusal.ReportRefusal.{ReportRefusal}
-use Rattle.report_command.specs.declared.refusal.ReportRefusal.TheVariants as refusal
-use Rattle.daemon_words.specs.declared.report.Report.{Report}
-use Rattle.health_report.specs.Reports.{IsReport}
+use Rattle.report_command.specs.declared.refusal.{InputRefusal.InputRefusal, ReportRefusal.ReportRefusal}
 use Rattle.report_command.specs.Answers.{AsksVerifier, IsMicrodesc, IsOfAnother, RefusesVote, Reports}
+use Rattle.report_command.specs.declared.refusal.NoReport.TheVariants as report
+use Rattle.report_command.specs.declared.refusal.ReportRefusal.TheVariants as refusal
+use Rattle.health_report.specs.Reports.{IsReport}
 
 -- what reading a vote of the input answers: the vote that begins at a place, which ends within the input; or its first fault, or
 -- want of memory

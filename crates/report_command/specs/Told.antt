@@ -1,13 +1,11 @@
 -- How a refusal of a call is told as the command's.
 use Rattle.frame_terms.specs.declared.fault.FrameFault.{FrameFault}
-use Rattle.daemon_words.specs.Stops.{told_as}
-use Rattle.daemon_words.specs.declared.stop.Stop.{Stop}
+use Rattle.daemon_words.specs.{Stops.told_as, declared.stop.Stop.Stop}
 use Rattle.compute_command.specs.declared.refusal.AcceptRefusal.{AcceptRefusal}
 use Rattle.compute_command.specs.declared.refusal.AcceptRefusal.TheVariants as accept
-use Rattle.report_command.specs.declared.refusal.InputRefusal.{InputRefusal}
+use Rattle.report_command.specs.declared.refusal.{InputRefusal.InputRefusal, ReportRefusal.ReportRefusal}
 use Rattle.report_command.specs.declared.refusal.InputRefusal.TheVariants as input
 use Rattle.report_command.specs.declared.refusal.NoReport.TheVariants as report
-use Rattle.report_command.specs.declared.refusal.ReportRefusal.{ReportRefusal}
 use Rattle.report_command.specs.declared.refusal.ReportRefusal.TheVariants as refusal
 
 -- that the input begins with no votes and the line behind them
@@ -22,6 +20,7 @@ of_input given = told_as by_input given
 abbrev pub by_fault : FrameFault → ReportRefusal
 by_fault fault = refusal.Consensus fault
 
+-- the stop of a reading of the consensus, as the command is told it
 abbrev pub of_fault : Stop FrameFault → Stop ReportRefusal
 of_fault given = told_as by_fault given
 

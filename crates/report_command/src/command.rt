@@ -4,8 +4,7 @@ ghost use Rattle.consensus_terms.specs.Moments.{HasMoments};
 ghost use Rattle.dir_bytes.specs.Causes.{Rose};
 ghost use Rattle.key_port.specs.Answers.{rules};
 ghost use Rattle.daemon_words.specs.Stops.{Answered};
-ghost use Rattle.report_command.specs.Answers.{IsOfDocuments, ReportAnswers};
-ghost use Rattle.report_command.specs.Private.{AnswersOf, AnswersWith};
+ghost use Rattle.report_command.specs.{Answers.{IsOfDocuments, ReportAnswers}, Private.{AnswersOf, AnswersWith}};
 
 use crate::reading::{consensus_at, votes_of};
 use crate::refusal::{MomentText, NoReport, ReportRefusal};

@@ -1,7 +1,6 @@
 // Why an input gives no report.
 ghost use Rattle.std.specs.Prelude.{◌≡◌, ◌≤◌, IfOk};
-ghost use Rattle.dir_bytes.specs.Causes.{last_moment};
-ghost use Rattle.dir_bytes.specs.FieldTexts.{moment_text};
+ghost use Rattle.dir_bytes.specs.{Causes.last_moment, FieldTexts.moment_text};
 
 use dir_bytes::{Memory, push_time};
 use frame_terms::FrameFault;

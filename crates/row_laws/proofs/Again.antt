@@ -1,37 +1,22 @@
 -- A document of one section that ends with the input is read again, whatever its tables.
 use Rattle.std.proofs.Common.{◌≡◌, ℕ, ◌+◌, Bool, true, false, List, [], ◌∷◌, ◌++◌, length, None, Ok, refl, sym, ap}
-use Rattle.std.proofs.Common.{subst, ◌∙◌, append-nil, arith}
-use Rattle.std.specs.Prelude.{◌&&◌, ◌||◌, map}
-use Rattle.std.proofs.lemmas.Bool.{and_from, and_parts, and_right}
-use Rattle.std.proofs.lemmas.List.Elements.{All-head}
-use Rattle.item_terms.specs.Items.{Contents, contents, contents_of, items_of, nothing}
-use Rattle.item_terms.specs.Words.{begins_dash}
+use Rattle.std.proofs.{Common.{subst, ◌∙◌, append-nil, arith}, lemmas.Bool.{and_from, and_parts, and_right}}
+use Rattle.std.{proofs.lemmas.List.Elements.All-head, specs.Prelude.{◌&&◌, ◌||◌, map}}
+use Rattle.item_terms.specs.{Items.{Contents, contents, contents_of, items_of, nothing}, Words.begins_dash}
 use Rattle.dirdoc_grammar.specs.Writing.{AreWritable, NewItem, all_written, in_front, is_open, items_text, written}
 use Rattle.grammar_laws.proofs.ItemsAgain.{items_again}
-use Rattle.frame_terms.specs.Documents.{Document, document_of, group, read_items}
-use Rattle.frame_terms.specs.Order.{following_sections, inner, must_open}
-use Rattle.frame_terms.specs.Tables.{Tables}
-use Rattle.frame_terms.specs.declared.document.Taken.{Taken}
-use Rattle.frame_terms.specs.declared.row.Row.{Row}
-use Rattle.frame_terms.specs.Decisions.{made_by}
-use Rattle.frame_terms.specs.Sections.{lacking_keyword}
-use Rattle.frame_terms.specs.declared.document.Made.TheVariants.{Stops}
+use Rattle.frame_terms.specs.{Documents.{Document, document_of, group, read_items}, Order.{following_sections, inner}}
+use Rattle.frame_terms.specs.{Order.must_open, Tables.Tables, declared.document.{Taken.Taken, Made.TheVariants.Stops}}
+use Rattle.frame_terms.specs.{declared.row.Row.Row, Decisions.made_by, Sections.lacking_keyword}
 use Rattle.frame_terms.specs.declared.section.Again.TheVariants as again
-use Rattle.frame_laws.proofs.Ends.{closed_read, stopped_read}
-use Rattle.frame_laws.proofs.Limits.{fits}
-use Rattle.frame_laws.proofs.Entries.{Entry, item_of, taken_at}
-use Rattle.frame_laws.proofs.Following.{IsFirst, first_read}
-use Rattle.frame_laws.proofs.ReadRows.{Stand}
-use Rattle.frame_laws.proofs.Remembered.{Forgets, notes_nothing}
-use Rattle.frame_laws.proofs.SaidRows.{RowSays, are_apart}
-use Rattle.frame_laws.proofs.Sections.{IsWritten, Section, entries_in, others_in, section_whole, taken_in}
-use Rattle.frame_laws.proofs.Steps.{IsAgain, made_by-later, opening, stop_of}
-use Rattle.frame_laws.proofs.TableRows.{are_plain, is_empty, is_plain}
-use Rattle.frame_laws.proofs.WrittenRows.{stand_written}
-use Rattle.row_laws.proofs.Rows.{Meaning, RowLaws}
-use Rattle.row_laws.proofs.Sayings.{AreSpoken, all_said, all_say, all_spoken, entry, same_items, same_rows, spoken_in}
-use Rattle.row_laws.proofs.Spoken.{Spoken, SpokenRow, new_item, new_items, rows_in, spoken, spoken_of}
-use Rattle.row_laws.proofs.Written.{suits_its_row}
+use Rattle.frame_laws.proofs.{Ends.{closed_read, stopped_read}, Limits.fits, Entries.{Entry, item_of, taken_at}}
+use Rattle.frame_laws.proofs.{Following.{IsFirst, first_read}, ReadRows.Stand, Remembered.{Forgets, notes_nothing}}
+use Rattle.frame_laws.proofs.{SaidRows.{RowSays, are_apart}, Sections.{IsWritten, Section, entries_in, others_in}}
+use Rattle.frame_laws.proofs.{Sections.{section_whole, taken_in}, Steps.{IsAgain, made_by-later, opening, stop_of}}
+use Rattle.frame_laws.proofs.{TableRows.{are_plain, is_empty, is_plain}, WrittenRows.stand_written}
+use Rattle.row_laws.proofs.{Rows.{Meaning, RowLaws}, Sayings.{AreSpoken, all_said, all_say, all_spoken, entry}}
+use Rattle.row_laws.proofs.{Sayings.{same_items, same_rows}, Spoken.{SpokenRow, new_item, new_items, rows_in, spoken}}
+use Rattle.row_laws.proofs.{Spoken.spoken_of, Written.suits_its_row}
 
 module _ {S K V X : Type 0} where
   -- no item of these rows opens or ends anything
@@ -55,10 +40,6 @@ nothing_left limit place = refl
 
 module _ {S K V X F : Type 0} (tables : Tables S K V X) (m : Meaning K V F)
     (MayWrite IsRead : K → F → Type 0) (laws : RowLaws tables m MayWrite IsRead) where
-  -- what was taken says this here
-  abbrev pub said_in : List ℕ → List (Taken V) → List (Spoken F)
-  said_in bytes taken = map (spoken_in tables m MayWrite IsRead laws bytes) taken
-
   abbrev say : List (SpokenRow K F) → List (RowSays K V)
   say rows = all_say tables m MayWrite IsRead laws rows
 

@@ -1,33 +1,21 @@
 -- Lines as columns: each type of argument has its facts once, and a line of columns has the facts of all.
 use Rattle.std.proofs.Common.{◌≡◌, ℕ, ◌/◌, ◌<◌, Bool, true, false, List, [], ◌∷◌, length, Option, Some, None, Result}
-use Rattle.std.proofs.Common.{Ok, refl, ap, ◌∙◌, arith}
-use Rattle.std.specs.Prelude.{is_some, unwrap_or, if◌then◌else◌}
-use Rattle.std.specs.List.{list_all}
-use Rattle.std.specs.Option.{option_and_then, option_map}
-use Rattle.std.proofs.lemmas.List.Elements.{All-cons, All-nil}
+use Rattle.std.proofs.{Common.{Ok, refl, ap, ◌∙◌, arith}, lemmas.List.Elements.{All-cons, All-nil}}
+use Rattle.std.specs.{Prelude.{is_some, unwrap_or, if◌then◌else◌}, List.list_all, Option.{option_and_then, option_map}}
 use Rattle.base64.specs.GeneralPurpose.{IsBytes}
 use Rattle.dir_bytes.specs.Fields as fields
-use Rattle.dir_bytes.specs.FieldTexts.{hex_text}
-use Rattle.dir_bytes.specs.HexBytes.{hex_bytes}
-use Rattle.dir_bytes.proofs.ReadAgain.{hex-hex_text}
+use Rattle.dir_bytes.{specs.{FieldTexts.hex_text, HexBytes.hex_bytes, Fields.hex}, proofs.ReadAgain.hex-hex_text}
 use Rattle.dir_bytes.proofs.Spelling.{length-hex_text}
-use Rattle.dir_bytes.specs.Fields.{hex}
 use Rattle.dirdoc_grammar.specs.Writers.{is_argument_byte}
-use Rattle.dir_values.specs.Arguments.{Argument}
-use Rattle.dir_values.specs.Digests.{fingerprint, key_digest}
-use Rattle.dir_values.specs.declared.digest.Digest1.{Digest1}
+use Rattle.dir_values.specs.{Arguments.Argument, Digests.{fingerprint, key_digest}, declared.digest.Digest1.Digest1}
 use Rattle.dir_values.specs.declared.digest.Fingerprint.{Fingerprint}
-use Rattle.frame_values.specs.Arguments.{field, front, next, others}
-use Rattle.frame_values.specs.Fields.{is_there, span_if, span_of}
-use Rattle.frame_values.specs.Parts.{part}
-use Rattle.frame_values.specs.Ranges.{AreTwenty}
-use Rattle.frame_values.specs.declared.found.Span.{Span}
-use Rattle.frame_laws.proofs.Words.{AreWords, IsWord, word_of_hex, word_of_identity}
-use Rattle.frame_laws.proofs.WrittenItems.{identity_again, key_again, word_is_there}
-use Rattle.row_laws.proofs.ReadBytes.{hex_spells, hex_bytes as twenty_bytes}
-use Rattle.row_laws.proofs.Ties.{AreThere, EachIs, Gives, IsColumn, Tied, Told, and_gives, and_next, behind_it, column}
-use Rattle.row_laws.proofs.Ties.{head_is, head_word, plain_column, tail_is, tail_words, word_column, word_gives}
-use Rattle.row_laws.proofs.Ties.{word_means}
+use Rattle.frame_values.specs.{Arguments.{field, front, next, others}, Fields.{is_there, span_if, span_of}, Parts.part}
+use Rattle.frame_values.specs.{Ranges.AreTwenty, declared.found.Span.Span}
+use Rattle.frame_laws.proofs.{Words.{AreWords, IsWord, word_of_hex, word_of_identity}, WrittenItems.identity_again}
+use Rattle.frame_laws.proofs.WrittenItems.{key_again, word_is_there}
+use Rattle.row_laws.proofs.{ReadBytes.{hex_spells, hex_bytes as twenty_bytes}, Ties.{AreThere, EachIs, Gives, IsColumn}}
+use Rattle.row_laws.proofs.Ties.{Tied, Told, and_gives, and_next, behind_it, column, head_is, head_word, plain_column}
+use Rattle.row_laws.proofs.Ties.{tail_is, tail_words, word_column, word_gives, word_means}
 
 -- ---- what digits spell
 

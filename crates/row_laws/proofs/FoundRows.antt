@@ -1,18 +1,11 @@
 -- Rows of different keywords: each is found by its keyword among all that is said.
 use Rattle.std.proofs.Common.{◌≡◌, Bool, true, false, List, [], ◌∷◌, ◌++◌, Option, Some, None, refl, ap, subst, ◌∙◌}
-use Rattle.std.proofs.Common.{append-nil, append_assoc}
-use Rattle.std.specs.Prelude.{map, not, if◌then◌else◌}
-use Rattle.std.specs.List.{cons_option, filter_map, find}
-use Rattle.std.specs.Option.{option_map}
-use Rattle.std.proofs.lemmas.Bool.{and_parts, not-true}
-use Rattle.std.proofs.lemmas.List.Elements.{filter_map-append}
-use Rattle.frame_terms.specs.Keywords.{same}
-use Rattle.frame_terms.specs.declared.keyword.Keyword.{Keyword}
-use Rattle.frame_laws.proofs.Both.{both_hold}
-use Rattle.frame_laws.proofs.KnownWords.{same-refl, same-sym}
-use Rattle.frame_laws.proofs.SaidRows.{are_apart, lack}
-use Rattle.row_laws.proofs.Spoken.{Spoken, SpokenRow, rows_in, spoken, spoken_of}
-use Rattle.row_laws.proofs.Lookups.{first_said}
+use Rattle.std.proofs.{Common.{append-nil, append_assoc}, lemmas.Bool.{and_parts, not-true}}
+use Rattle.std.{proofs.lemmas.List.Elements.filter_map-append, specs.Prelude.{map, not, if◌then◌else◌}}
+use Rattle.std.specs.{List.{cons_option, filter_map, find}, Option.option_map}
+use Rattle.frame_terms.specs.{Keywords.same, declared.keyword.Keyword.Keyword}
+use Rattle.frame_laws.proofs.{Both.both_hold, KnownWords.{same-refl, same-sym}, SaidRows.{are_apart, lack}}
+use Rattle.row_laws.proofs.{Spoken.{Spoken, SpokenRow, rows_in, spoken, spoken_of}, Lookups.first_said}
 
 module _ {F : Type 0} where
   -- what an item says, if it is of a keyword

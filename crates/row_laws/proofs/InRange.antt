@@ -1,14 +1,9 @@
 -- What stands in a section says what the words of items of the input mean, and is in range, whatever the tables.
 use Rattle.std.proofs.Common.{◌≡◌, ℕ, List, [], ◌∷◌, Option, Some, refl, sym, subst, inl, inr}
 use Rattle.item_terms.specs.Items.{Item}
-use Rattle.frame_terms.specs.Tables.{Tables}
-use Rattle.frame_terms.specs.declared.document.Taken.{Taken}
-use Rattle.frame_terms.specs.declared.row.Row.{Row}
+use Rattle.frame_terms.specs.{Tables.Tables, declared.{document.Taken.Taken, row.Row.Row}}
 use Rattle.document_laws.specs.Items.{IsItemIn, IsItemOf}
-use Rattle.row_laws.proofs.ItemArguments.{IsSound}
-use Rattle.row_laws.proofs.Saying.{EachStands}
-use Rattle.row_laws.proofs.Rows.{Meaning, ReadLaws}
-use Rattle.row_laws.proofs.Spoken.{words_in}
+use Rattle.row_laws.proofs.{ItemArguments.IsSound, Saying.EachStands, Rows.{Meaning, ReadLaws}, Spoken.words_in}
 use Rattle.row_laws.proofs.Ties.{Gives}
 
 -- ---- what each says

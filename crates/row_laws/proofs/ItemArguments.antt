@@ -1,19 +1,11 @@
 -- The arguments of an item are words, which stand in the input where they say.
 use Rattle.std.proofs.Common.{◌≡◌, ℕ, zero, suc, ◌+◌, Bool, true, false, List, [], ◌∷◌, length, take, drop, refl, sym}
-use Rattle.std.proofs.Common.{ap, ◌∙◌, arith}
-use Rattle.std.specs.Prelude.{◌==◌, ◌&&◌, not, if◌then◌else◌}
-use Rattle.std.specs.List.{list_all}
-use Rattle.std.proofs.lemmas.Bool.{and_from, and_parts, false≢true}
-use Rattle.std.proofs.lemmas.List.{drop-drop}
-use Rattle.item_terms.specs.Items.{Item}
-use Rattle.item_terms.specs.Words.{ends_or_blank, is_blank}
-use Rattle.dirdoc_grammar.specs.InPlace.{InPlace}
-use Rattle.dirdoc_grammar.specs.Writers.{is_argument, is_argument_byte}
-use Rattle.dirdoc_grammar.specs.Writing.{IsLineRest}
+use Rattle.std.proofs.{Common.{ap, ◌∙◌, arith}, lemmas.{Bool.{and_from, and_parts, false≢true}, List.drop-drop}}
+use Rattle.std.specs.{Prelude.{◌==◌, ◌&&◌, not, if◌then◌else◌}, List.list_all}
+use Rattle.item_terms.specs.{Items.Item, Words.{ends_or_blank, is_blank}}
+use Rattle.dirdoc_grammar.specs.{InPlace.InPlace, Writers.{is_argument, is_argument_byte}, Writing.IsLineRest}
 use Rattle.dir_values.specs.Arguments.{Argument, arguments_at, onto}
-use Rattle.frame_values.specs.Arguments.{arguments_of, front, others}
-use Rattle.frame_values.specs.Fields.{is_there, span_of}
-use Rattle.frame_values.specs.Parts.{part}
+use Rattle.frame_values.specs.{Arguments.{arguments_of, front, others}, Fields.{is_there, span_of}, Parts.part}
 use Rattle.frame_laws.proofs.StandingParts.{at_span}
 
 -- a byte that may stand in a line

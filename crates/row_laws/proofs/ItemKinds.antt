@@ -1,33 +1,20 @@
 -- Kinds of items, each with its facts as one record: lines of columns, with an object or without, moments, rests of
 -- lines,
 -- objects alone, and words that are wanted.
-use Rattle.std.proofs.Common.{◌≡◌, ℕ, ◌/◌, ◌*◌, ◌≤◌, true, List, [], ◌∷◌, Option, Some, None, Result, Ok}
-use Rattle.std.proofs.Common.{Err, refl, sym, ap, subst, ◌∙◌, arith, ◌+◌, ◌%◌}
-use Rattle.std.specs.Prelude.{IfSome, unwrap_or}
-use Rattle.std.specs.List.{join_with_byte}
-use Rattle.std.specs.Option.{option_and_then, option_map}
-use Rattle.dir_bytes.specs.Fields.{date, time_of_day}
-use Rattle.dir_bytes.specs.FieldTexts.{clock_text, date_text, moment_text}
-use Rattle.dir_bytes.proofs.ReadAgain.{date-date_text, time_of_day-clock_text}
-use Rattle.dir_bytes.specs.Causes.{last_moment}
-use Rattle.item_terms.specs.Items.{Item}
-use Rattle.item_terms.specs.Words.{words_of}
-use Rattle.dirdoc_grammar.specs.Bodies.{body_text}
-use Rattle.dirdoc_grammar.specs.Writing.{IsLineRest, IsWritableObject}
+use Rattle.std.proofs.Common.{◌≡◌, ℕ, ◌/◌, ◌*◌, ◌≤◌, true, List, [], ◌∷◌, Option, Some, None, Result, Ok, Err, refl}
+use Rattle.std.{proofs.Common.{sym, ap, subst, ◌∙◌, arith, ◌+◌, ◌%◌}, specs.Prelude.{IfSome, unwrap_or}}
+use Rattle.std.specs.{List.join_with_byte, Option.{option_and_then, option_map}}
+use Rattle.dir_bytes.specs.{Fields.{date, time_of_day}, FieldTexts.{clock_text, date_text, moment_text}}
+use Rattle.dir_bytes.{specs.Causes.last_moment, proofs.ReadAgain.{date-date_text, time_of_day-clock_text}}
+use Rattle.item_terms.specs.{Items.Item, Words.words_of}
+use Rattle.dirdoc_grammar.specs.{Bodies.body_text, Writing.{IsLineRest, IsWritableObject}}
 use Rattle.grammar_laws.proofs.WrittenBytes.{decoded-body_text}
-use Rattle.frame_values.specs.Arguments.{arguments_of, next}
-use Rattle.frame_values.specs.Faults.{at_place}
-use Rattle.frame_values.specs.Lines.{rest_of, time_of}
-use Rattle.frame_values.specs.Parts.{bytes_in, moment_of, part}
-use Rattle.frame_values.specs.Signatures.{object_of}
-use Rattle.frame_values.specs.declared.found.Span.{Span}
-use Rattle.frame_laws.proofs.Words.{two_words, word_of_clock, word_of_date, words_of-join}
-use Rattle.frame_laws.proofs.StandingParts.{rest_part}
-use Rattle.row_laws.proofs.Ties.{plain, any_gives, Gives, Tied, and_gives, and_next, and_said, behind_it}
-use Rattle.row_laws.proofs.Ties.{each_is, head_word, in_item, object_means, object_tied, tail_words}
-use Rattle.row_laws.proofs.ItemArguments.{IsSound}
-use Rattle.row_laws.proofs.Spoken.{Rest, Words, new_words, words_in}
-use Rattle.row_laws.proofs.Columns.{Line, LineLaws}
+use Rattle.frame_values.specs.{Arguments.{arguments_of, next}, Faults.at_place, Lines.{rest_of, time_of}}
+use Rattle.frame_values.specs.{Parts.{bytes_in, moment_of, part}, Signatures.object_of, declared.found.Span.Span}
+use Rattle.frame_laws.proofs.{Words.{two_words, word_of_clock, word_of_date, words_of-join}, StandingParts.rest_part}
+use Rattle.row_laws.proofs.Ties.{plain, any_gives, Gives, Tied, and_gives, and_next, and_said, behind_it, each_is}
+use Rattle.row_laws.proofs.{Ties.{head_word, in_item, object_means, object_tied, tail_words}, ItemArguments.IsSound}
+use Rattle.row_laws.proofs.{Spoken.{Rest, Words, new_words, words_in}, Columns.{Line, LineLaws}}
 
 -- ---- an item
 

@@ -1,20 +1,16 @@
 -- The rest of each item's line has no NL, no NUL and no outer blanks.
 use Rattle.std.proofs.Common.{◌≡◌, ℕ, zero, suc, ◌+◌, ◌-◌, ◌≤◌, Bool, true, false, cond, List, [], ◌∷◌, ◌++◌, length}
 use Rattle.std.proofs.Common.{take, drop, get_or, reverse, Option, Some, None, refl, sym, ap, subst, ◌∙◌, arith, inl}
-use Rattle.std.proofs.Common.{inr}
-use Rattle.std.specs.Prelude.{◌==◌, ◌&&◌, nat_lt, not, if◌then◌else◌}
+use Rattle.std.proofs.{Common.inr, lemmas.{Bool.{and_from, and_parts, cases_lt, ltb-false}, List.get_or-reverse}}
+use Rattle.std.proofs.lemmas.List.{length-reverse, take_all, Sums.{prefix_len_stops, suffix_len-le-length}}
+use Rattle.std.{proofs.lemmas.List.Sums.suffix_len-take_no, specs.Prelude.{◌==◌, ◌&&◌, nat_lt, not, if◌then◌else◌}}
 use Rattle.std.specs.List.{list_all, prefix_len, suffix_len}
-use Rattle.std.proofs.lemmas.Bool.{and_from, and_parts, cases_lt, ltb-false}
-use Rattle.std.proofs.lemmas.List.{get_or-reverse, length-reverse, take_all}
-use Rattle.std.proofs.lemmas.List.Sums.{prefix_len_stops, suffix_len-le-length, suffix_len-take_no}
-use Rattle.item_terms.specs.declared.fault.DocFault.{DocFault}
-use Rattle.item_terms.specs.Faults.{line_fault, nul_fault, or_else, too_long, unterminated_fault}
-use Rattle.item_terms.specs.Items.{Contents, Item, items_from}
-use Rattle.item_terms.specs.Lines.{Line, lines, onto, size}
-use Rattle.item_terms.specs.Words.{after_keyword, arguments, is_blank, keyword_len, nul_in, trim, trim_end, trim_front}
+use Rattle.item_terms.specs.{declared.fault.DocFault.DocFault, Faults.{line_fault, nul_fault, or_else, too_long}}
+use Rattle.item_terms.specs.{Faults.unterminated_fault, Items.{Contents, Item, items_from}, Lines.{Line, lines, onto}}
+use Rattle.item_terms.specs.{Lines.size, Words.{after_keyword, arguments, is_blank, keyword_len, nul_in, trim}}
+use Rattle.item_terms.specs.Words.{trim_end, trim_front}
 use Rattle.dirdoc_grammar.specs.Writing.{IsLineRest}
-use Rattle.grammar_laws.specs.Blocks.{AreLinesOfItems}
-use Rattle.grammar_laws.proofs.BlockFronts.{fault_is_there, items_are_there}
+use Rattle.grammar_laws.{specs.Blocks.AreLinesOfItems, proofs.BlockFronts.{fault_is_there, items_are_there}}
 
 -- ---- lines have no NL
 

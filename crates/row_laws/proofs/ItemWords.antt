@@ -1,12 +1,9 @@
 -- The words of a line's rest are arguments.
-use Rattle.std.proofs.Common.{◌≡◌, ℕ, Bool, true, false, List, [], ◌∷◌, refl}
-use Rattle.std.specs.Prelude.{All, if◌then◌else◌}
+use Rattle.std.proofs.{Common.{◌≡◌, ℕ, Bool, true, false, List, [], ◌∷◌, refl}, lemmas.Bool.{and_from, and_parts}}
+use Rattle.std.{proofs.lemmas.List.Elements.{All-cons, All-head, All-nil, All-tail}, specs.Prelude.{All, if◌then◌else◌}}
 use Rattle.std.specs.List.{list_all}
-use Rattle.std.proofs.lemmas.Bool.{and_from, and_parts}
-use Rattle.std.proofs.lemmas.List.Elements.{All-cons, All-head, All-nil, All-tail}
 use Rattle.item_terms.specs.Words.{ends_or_blank, is_blank, onto_word, words_of}
-use Rattle.dirdoc_grammar.specs.Writers.{is_argument, is_argument_byte}
-use Rattle.dirdoc_grammar.specs.Writing.{IsLineRest}
+use Rattle.dirdoc_grammar.specs.{Writers.{is_argument, is_argument_byte}, Writing.IsLineRest}
 use Rattle.row_laws.proofs.ItemArguments.{both_tests, in_line, line_byte}
 
 -- a word that may stand in a line

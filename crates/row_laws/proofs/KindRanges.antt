@@ -2,41 +2,21 @@
 -- which it
 -- was kept: whatever the tables.
 use Rattle.std.proofs.Common.{◌≡◌, ℕ, Bool, true, false, List, [], ◌∷◌, arith, Option, Some, None, Result, Ok, Err}
-use Rattle.std.proofs.Common.{refl, sym, ap, subst, ◌∙◌}
-use Rattle.std.specs.Prelude.{All, IfSome, is_some, if◌then◌else◌, ◌||◌}
-use Rattle.std.specs.List.{fold}
-use Rattle.std.proofs.lemmas.Bool.{false≢true}
-use Rattle.std.proofs.lemmas.List.Elements.{All-cons, All-head, All-nil, All-tail, All-weaker}
+use Rattle.std.proofs.{Common.{refl, sym, ap, subst, ◌∙◌}, lemmas.{Bool.false≢true, List.Elements.{All-cons, All-head}}}
+use Rattle.std.{proofs.lemmas.List.Elements.{All-nil, All-tail, All-weaker}, specs.Prelude.{All, IfSome, is_some}}
+use Rattle.std.specs.{Prelude.{if◌then◌else◌, ◌||◌}, List.fold}
 use Rattle.base64.specs.GeneralPurpose.{IsBytes}
 use Rattle.item_terms.specs.Items.{Contents, Item, items_from}
-use Rattle.frame_terms.specs.Documents.{Document, document_of, finish}
-use Rattle.frame_terms.specs.Keywords.{same}
-use Rattle.frame_terms.specs.Order.{inner}
-use Rattle.frame_terms.specs.Rows.{row}
-use Rattle.frame_terms.specs.Sections.{row_of, stands}
-use Rattle.frame_terms.specs.declared.row.Count.TheVariants.{One}
-use Rattle.frame_terms.specs.Tables.{Tables}
-use Rattle.frame_terms.specs.declared.document.Group.{Group}
-use Rattle.frame_terms.specs.declared.document.Taken.{Taken}
-use Rattle.frame_terms.specs.declared.fault.FrameFault.{FrameFault}
-use Rattle.frame_terms.specs.declared.fault.ReadRefusal.{ReadRefusal}
-use Rattle.frame_terms.specs.declared.keyword.Keyword.{Keyword}
-use Rattle.frame_terms.specs.declared.row.Row.{Row}
-use Rattle.frame_values.specs.Arguments.{next}
-use Rattle.frame_values.specs.Faults.{at_place, unless_fault}
-use Rattle.frame_values.specs.Values.{item_at}
-use Rattle.document_laws.specs.Items.{AreItemsIn}
-use Rattle.document_laws.specs.Counts.{RowsStand}
-use Rattle.document_laws.proofs.Counting.{stand_as_often}
-use Rattle.document_laws.proofs.Taking.{are_said}
+use Rattle.frame_terms.specs.{Documents.{Document, document_of, finish}, Keywords.same, Order.inner, Rows.row}
+use Rattle.frame_terms.specs.{Sections.{row_of, stands}, declared.row.{Count.TheVariants.One, Row.Row}}
+use Rattle.frame_terms.specs.declared.{document.{Group.Group, Taken.Taken}, fault.FrameFault.FrameFault}
+use Rattle.frame_terms.specs.{declared.{fault.ReadRefusal.ReadRefusal, keyword.Keyword.Keyword}, Tables.Tables}
+use Rattle.frame_values.specs.{Arguments.next, Faults.{at_place, unless_fault}, Values.item_at}
+use Rattle.document_laws.{specs.{Items.AreItemsIn, Counts.RowsStand}, proofs.{Counting.stand_as_often, Taking.are_said}}
 use Rattle.document_laws.proofs.Times.{none_stands}
-use Rattle.row_laws.proofs.ItemArguments.{IsSound}
-use Rattle.row_laws.proofs.ItemKinds.{Kind, KindLaws}
-use Rattle.row_laws.proofs.Lookups.{fold_holds}
-use Rattle.row_laws.proofs.ReadSteps.{ReadAs, no_fault, was_read}
-use Rattle.row_laws.proofs.Saying.{EachStands, Says, Stands, all_sound, each_stands, found, of_row}
-use Rattle.row_laws.proofs.Spoken.{words_in}
-use Rattle.row_laws.proofs.Ties.{Gives, Tied}
+use Rattle.row_laws.proofs.{ItemArguments.IsSound, ItemKinds.{Kind, KindLaws}, Lookups.fold_holds, ReadSteps.ReadAs}
+use Rattle.row_laws.proofs.{ReadSteps.{no_fault, was_read}, Saying.{EachStands, Says, Stands, all_sound, each_stands}}
+use Rattle.row_laws.proofs.{Saying.{found, of_row}, Spoken.words_in, Ties.{Gives, Tied}}
 
 -- ---- kinds
 

@@ -1,12 +1,8 @@
 -- What is looked up among items with their places is what is looked up without them.
 use Rattle.std.proofs.Common.{◌≡◌, Bool, true, false, List, [], ◌∷◌, Option, Some, None, refl, ap, ◌∙◌}
-use Rattle.std.specs.Prelude.{All, map, if◌then◌else◌}
-use Rattle.std.proofs.lemmas.List.Elements.{All-head, All-tail}
-use Rattle.std.specs.List.{cons_option, filter_map, find, fold}
-use Rattle.std.specs.Option.{option_map}
-use Rattle.frame_terms.specs.Keywords.{same}
-use Rattle.frame_terms.specs.declared.document.Taken.{Taken}
-use Rattle.frame_terms.specs.declared.keyword.Keyword.{Keyword}
+use Rattle.std.{proofs.lemmas.List.Elements.{All-head, All-tail}, specs.Prelude.{All, map, if◌then◌else◌}}
+use Rattle.std.specs.{List.{cons_option, filter_map, find, fold}, Option.option_map}
+use Rattle.frame_terms.specs.{Keywords.same, declared.{document.Taken.Taken, keyword.Keyword.Keyword}}
 use Rattle.frame_values.specs.Values.{item_at}
 use Rattle.row_laws.proofs.Spoken.{Spoken, spoken}
 

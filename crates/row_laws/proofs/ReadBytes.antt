@@ -1,24 +1,16 @@
 -- Parts of bytes are bytes, and what texts of bytes spell is bytes.
 use Rattle.std.proofs.Common.{◌≡◌, ℕ, zero, suc, ◌-◌, ◌*◌, ◌<◌, Bool, true, false, cond, List, [], ◌∷◌, length, take}
-use Rattle.std.proofs.Common.{drop, Some, None, Result, Ok, Err, refl, sym, subst, ◌∙◌, arith}
-use Rattle.std.specs.Prelude.{◌==◌, filter, nat_lt, unwrap_or, if◌then◌else◌}
-use Rattle.std.specs.List.{list_all}
-use Rattle.std.specs.Result.{result_ok}
-use Rattle.std.proofs.lemmas.Bool.{and_parts, eqb-true, ltb-true}
-use Rattle.base64.specs.Engines.{standard, standard_no_pad}
-use Rattle.base64.specs.GeneralPurpose.{IsBytes, decode_of, decoded_of}
+use Rattle.std.proofs.{Common.{drop, Some, None, Result, Ok, Err, refl, sym, subst, ◌∙◌, arith}, lemmas.Bool.and_parts}
+use Rattle.std.{proofs.lemmas.Bool.{eqb-true, ltb-true}, specs.Prelude.{◌==◌, filter, nat_lt, unwrap_or, if◌then◌else◌}}
+use Rattle.std.specs.{List.list_all, Result.result_ok}
+use Rattle.base64.specs.{Engines.{standard, standard_no_pad}, GeneralPurpose.{IsBytes, decode_of, decoded_of}}
 use Rattle.base64.specs.declared.decode.DecodeError.{DecodeError}
-use Rattle.hex.specs.Hex.{decode_sized}
-use Rattle.hex.specs.declared.error.FromHexError.{FromHexError}
-use Rattle.hex.proofs.HexLemmas.{decode_of-ok, decode_sized-ok, decode_sized-twice}
+use Rattle.hex.{specs.{Hex.decode_sized, declared.error.FromHexError.FromHexError}, proofs.HexLemmas.decode_of-ok}
+use Rattle.hex.proofs.HexLemmas.{decode_sized-ok, decode_sized-twice}
 use Rattle.dir_bytes.specs.Fields.{base64, hex, of_length}
 use Rattle.item_terms.specs.Base64Text.{is_inside, joined_text}
-use Rattle.dirdoc_grammar.specs.Bodies.{decoded_bytes}
-use Rattle.dirdoc_grammar.proofs.DecodedBytes.{decoded_is_bytes}
-use Rattle.frame_values.specs.Parts.{bytes_in, part}
-use Rattle.frame_values.specs.Ranges.{AreTwenty}
-use Rattle.frame_values.specs.Values.{no_digest}
-use Rattle.frame_values.specs.declared.found.Span.{Span}
+use Rattle.dirdoc_grammar.{specs.Bodies.decoded_bytes, proofs.DecodedBytes.decoded_is_bytes}
+use Rattle.frame_values.specs.{Parts.{bytes_in, part}, Ranges.AreTwenty, Values.no_digest, declared.found.Span.Span}
 
 -- ---- lists of bytes
 

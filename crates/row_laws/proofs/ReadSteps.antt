@@ -1,27 +1,18 @@
 -- What is read step by step is such as each step makes it.
 use Rattle.std.proofs.Common.{length, ◌≡◌, ℕ, ◌+◌, ◌*◌, ◌<◌, ◌≤◌, Bool, true, false, List, [], ◌∷◌, Option, Some, None}
-use Rattle.std.proofs.Common.{Result, Ok, Err, refl, subst, arith}
-use Rattle.std.specs.Prelude.{◌&&◌, ◌^◌, nat_le, if◌then◌else◌}
-use Rattle.std.specs.List.{after_first, before_first}
-use Rattle.std.specs.Option.{option_map}
+use Rattle.std.proofs.{Common.{Result, Ok, Err, refl, subst, arith}, lemmas.Bool.{and_parts, leb-true}}
+use Rattle.std.specs.{Prelude.{◌&&◌, ◌^◌, nat_le, if◌then◌else◌}, List.{after_first, before_first}, Option.option_map}
 use Rattle.std.specs.Str.Parse.{digits_value}
-use Rattle.std.proofs.lemmas.Bool.{and_parts, leb-true}
 use Rattle.base64.specs.GeneralPurpose.{IsBytes}
 use Rattle.dir_bytes.specs.Fields.{base64, address, address_of, hex, is_dot, is_numeral, number}
 use Rattle.item_terms.specs.Items.{Item}
-use Rattle.dir_values.specs.Arguments.{Argument}
-use Rattle.dir_values.specs.Digests.{fingerprint, key_digest}
-use Rattle.dir_values.specs.declared.digest.Digest1.{Digest1}
+use Rattle.dir_values.specs.{Arguments.Argument, Digests.{fingerprint, key_digest}, declared.digest.Digest1.Digest1}
 use Rattle.dir_values.specs.declared.digest.Fingerprint.{Fingerprint}
 use Rattle.frame_terms.specs.declared.fault.FrameFault.{FrameFault}
-use Rattle.frame_values.specs.Arguments.{field, front, next}
-use Rattle.frame_values.specs.Faults.{at_place, unless_fault}
-use Rattle.frame_values.specs.Fields.{span_if, span_of}
-use Rattle.frame_values.specs.Lines.{rest_of, rest_unless}
-use Rattle.frame_values.specs.Ranges.{AreTwenty}
-use Rattle.frame_values.specs.declared.found.Span.{Span}
-use Rattle.row_laws.proofs.ItemArguments.{AreFound, IsFound}
-use Rattle.row_laws.proofs.ReadBytes.{base64_bytes, bytes_by_test, hex_bytes, part_bytes}
+use Rattle.frame_values.specs.{Arguments.{field, front, next}, Faults.{at_place, unless_fault}, Fields.span_if}
+use Rattle.frame_values.specs.{Fields.span_of, Lines.{rest_of, rest_unless}, Ranges.AreTwenty, declared.found.Span.Span}
+use Rattle.row_laws.proofs.{ItemArguments.{AreFound, IsFound}, ReadBytes.{base64_bytes, bytes_by_test, hex_bytes}}
+use Rattle.row_laws.proofs.ReadBytes.{part_bytes}
 
 -- ---- steps
 

@@ -3,11 +3,8 @@ use Rattle.std.proofs.Common.{◌≡◌, ℕ, false, List, Option, Some, None, R
 use Rattle.std.specs.Prelude.{IfSome}
 use Rattle.item_terms.specs.Items.{Item}
 use Rattle.dirdoc_grammar.specs.Writing.{IsLineRest, IsWritableObject}
-use Rattle.frame_terms.specs.declared.fault.FrameFault.{FrameFault}
-use Rattle.frame_terms.specs.Tables.{Tables}
-use Rattle.row_laws.proofs.ItemArguments.{IsSound}
-use Rattle.row_laws.proofs.Spoken.{Rest, Words, new_words, words_in}
-use Rattle.row_laws.proofs.Ties.{Gives, Tied}
+use Rattle.frame_terms.specs.{declared.fault.FrameFault.FrameFault, Tables.Tables}
+use Rattle.row_laws.proofs.{ItemArguments.IsSound, Spoken.{Rest, Words, new_words, words_in}, Ties.{Gives, Tied}}
 
 -- What a document's items mean, without places:
 -- said     what a value with places says in the input's bytes

@@ -2,8 +2,7 @@
 -- items never say this or that, whatever its tables: `made_of_any` and `said_of_any` for all kinds at once.
 use Rattle.std.proofs.Common.{◌≡◌, ℕ, Result, Ok, Err}
 use Rattle.frame_terms.specs.declared.fault.FrameFault.{FrameFault}
-use Rattle.frame_values.specs.Arguments.{next}
-use Rattle.frame_values.specs.Faults.{at_place, unless_fault}
+use Rattle.frame_values.specs.{Arguments.next, Faults.{at_place, unless_fault}}
 use Rattle.row_laws.proofs.ReadSteps.{ReadAs, no_fault, was_read}
 
 -- what is made of what was read is such, if it is whatever was read

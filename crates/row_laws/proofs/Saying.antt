@@ -1,23 +1,14 @@
 -- What stands in a section is said by an item of the input, by the row of its keyword.
 use Rattle.std.proofs.Common.{◌≡◌, ℕ, Bool, true, false, List, [], ◌∷◌, ◌++◌, Some, Ok, refl, sym, ap, subst, ◌∙◌, inl}
-use Rattle.std.proofs.Common.{inr}
-use Rattle.std.specs.Prelude.{IfSome, if◌then◌else◌}
+use Rattle.std.{proofs.Common.inr, specs.Prelude.{IfSome, if◌then◌else◌}}
 use Rattle.item_terms.specs.Items.{Item, items_from}
-use Rattle.dirdoc_grammar.specs.InPlace.{EachInPlace}
-use Rattle.dirdoc_grammar.proofs.Places.{stand_in_place}
-use Rattle.frame_terms.specs.declared.document.Taken.{Taken}
-use Rattle.frame_terms.specs.declared.keyword.Keyword.{Keyword}
-use Rattle.frame_terms.specs.declared.row.Row.{Row}
-use Rattle.frame_terms.specs.Keywords.{same}
-use Rattle.frame_terms.specs.Order.{inner}
-use Rattle.frame_terms.specs.Sections.{row_of}
-use Rattle.frame_terms.specs.Tables.{Tables}
+use Rattle.dirdoc_grammar.{specs.InPlace.EachInPlace, proofs.Places.stand_in_place}
+use Rattle.frame_terms.specs.{declared.{document.Taken.Taken, keyword.Keyword.Keyword, row.Row.Row}, Keywords.same}
+use Rattle.frame_terms.specs.{Order.inner, Sections.row_of, Tables.Tables}
 use Rattle.frame_values.specs.Values.{item_at}
 use Rattle.frame_laws.proofs.KnownWords.{same-through}
-use Rattle.document_laws.specs.Items.{AreItemsIn, IsItemIn, IsItemOf}
-use Rattle.document_laws.proofs.Openers.{row_of-one, row_of-same}
-use Rattle.row_laws.proofs.ItemArguments.{IsSound}
-use Rattle.row_laws.proofs.ItemRests.{HaveRests, have_rests}
+use Rattle.document_laws.{specs.Items.{AreItemsIn, IsItemIn, IsItemOf}, proofs.Openers.{row_of-one, row_of-same}}
+use Rattle.row_laws.proofs.{ItemArguments.IsSound, ItemRests.{HaveRests, have_rests}}
 
 -- ---- the items of an input
 

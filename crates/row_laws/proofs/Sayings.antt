@@ -1,22 +1,13 @@
 -- Rows that are written say what they mean, where their items stand.
 use Rattle.std.proofs.Common.{◌≡◌, ℕ, ◌+◌, ◌≤◌, true, false, List, [], ◌∷◌, ◌++◌, length, suc, refl, ap, ◌∙◌, arith}
-use Rattle.std.specs.Prelude.{All, map}
-use Rattle.std.proofs.lemmas.List.{map-append}
-use Rattle.std.proofs.lemmas.List.Elements.{All-head, All-tail}
+use Rattle.std.{proofs.lemmas.List.{map-append, Elements.{All-head, All-tail}}, specs.Prelude.{All, map}}
 use Rattle.dirdoc_grammar.specs.Writing.{AreWritable, NewItem, item_text, items_text}
-use Rattle.frame_terms.specs.Rows.{is_many, is_one}
-use Rattle.frame_terms.specs.Tables.{Tables}
-use Rattle.frame_terms.specs.declared.document.Taken.{Taken}
-use Rattle.frame_terms.specs.declared.row.Count.{Count}
-use Rattle.frame_terms.specs.declared.row.Count.TheVariants.{Many, One, Optional}
-use Rattle.frame_terms.specs.declared.row.Row.{Row}
-use Rattle.frame_laws.proofs.Both.{both_hold}
-use Rattle.frame_laws.proofs.Entries.{Entry, after_one, all_taken, item_of}
-use Rattle.frame_laws.proofs.Places.{after_all, all_taken-append, both_writable}
-use Rattle.frame_laws.proofs.ReadRows.{Stand, both_stand}
-use Rattle.frame_laws.proofs.SaidRows.{AreSaid, EachSuits, RowSays, entries_of, rows_of}
-use Rattle.row_laws.proofs.Rows.{Meaning, RowLaws}
-use Rattle.row_laws.proofs.Spoken.{Spoken, SpokenRow, new_items, rows_in, spoken, spoken_of}
+use Rattle.frame_terms.specs.{Rows.{is_many, is_one}, Tables.Tables, declared.{document.Taken.Taken, row.Count.Count}}
+use Rattle.frame_terms.specs.declared.row.{Count.TheVariants.{Many, One, Optional}, Row.Row}
+use Rattle.frame_laws.proofs.{Both.both_hold, Entries.{Entry, after_one, all_taken, item_of}, Places.after_all}
+use Rattle.frame_laws.proofs.{Places.{all_taken-append, both_writable}, ReadRows.{Stand, both_stand}, SaidRows.AreSaid}
+use Rattle.frame_laws.proofs.SaidRows.{EachSuits, RowSays, entries_of, rows_of}
+use Rattle.row_laws.proofs.{Rows.{Meaning, RowLaws}, Spoken.{Spoken, SpokenRow, new_items, rows_in, spoken, spoken_of}}
 use Rattle.row_laws.proofs.Written.{entry_of, it_says, item_of_row, suits_its_row}
 
 -- ---- how often

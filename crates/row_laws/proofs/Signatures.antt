@@ -2,39 +2,25 @@
 -- read
 -- again, and that what is read is in range.
 use Rattle.std.proofs.Common.{◌≡◌, ℕ, Bool, true, false, List, [], ◌∷◌, Option, Some, None, Result, Ok, Err, refl, sym}
-use Rattle.std.proofs.Common.{ap, subst, ◌∙◌}
-use Rattle.std.specs.Prelude.{IfSome, codes, is_some, unwrap_or, if◌then◌else◌}
-use Rattle.std.specs.List.{join_with_byte}
-use Rattle.std.specs.Option.{option_and_then, option_map}
-use Rattle.std.proofs.lemmas.List.Elements.{All-cons}
+use Rattle.std.{proofs.{Common.{ap, subst, ◌∙◌}, lemmas.List.Elements.All-cons}, specs.Prelude.{IfSome, codes, is_some}}
+use Rattle.std.specs.{Prelude.{unwrap_or, if◌then◌else◌}, List.join_with_byte, Option.{option_and_then, option_map}}
 use Rattle.base64.specs.GeneralPurpose.{IsBytes}
 use Rattle.dir_bytes.specs.FieldTexts.{hex_text}
-use Rattle.item_terms.specs.Items.{Item, Object}
-use Rattle.item_terms.specs.Words.{words_of}
-use Rattle.dirdoc_grammar.specs.Bodies.{body_text}
-use Rattle.dirdoc_grammar.specs.Writers.{is_argument}
+use Rattle.item_terms.specs.{Items.{Item, Object}, Words.words_of}
+use Rattle.dirdoc_grammar.specs.{Bodies.body_text, Writers.is_argument}
 use Rattle.grammar_laws.proofs.WrittenBytes.{decoded-body_text}
-use Rattle.dir_values.specs.Arguments.{Argument}
-use Rattle.dir_values.specs.Digests.{fingerprint, key_digest}
-use Rattle.dir_values.specs.Names.{algorithm}
-use Rattle.dir_values.specs.declared.algorithm.Algorithm.{Algorithm}
-use Rattle.dir_values.specs.declared.digest.Digest1.{Digest1}
-use Rattle.dir_values.specs.declared.digest.Fingerprint.{Fingerprint}
-use Rattle.frame_values.specs.Ranges.{AreTwenty}
-use Rattle.frame_values.specs.Arguments.{arguments_of, field, front, next}
-use Rattle.frame_values.specs.Fields.{is_there}
-use Rattle.frame_values.specs.Parts.{bytes_in}
-use Rattle.frame_values.specs.Signatures.{after_algorithm, algorithm_if, has_words, known_signature_of, object_of}
-use Rattle.frame_values.specs.Signatures.{signed_by, signed_if}
+use Rattle.dir_values.specs.{Arguments.Argument, Digests.{fingerprint, key_digest}, Names.algorithm}
+use Rattle.dir_values.specs.declared.{algorithm.Algorithm.Algorithm, digest.{Digest1.Digest1, Fingerprint.Fingerprint}}
+use Rattle.frame_values.specs.{Ranges.AreTwenty, Arguments.{arguments_of, field, front, next}, Fields.is_there}
+use Rattle.frame_values.specs.{Parts.bytes_in, Signatures.{after_algorithm, algorithm_if, has_words}}
+use Rattle.frame_values.specs.Signatures.{known_signature_of, object_of, signed_by, signed_if}
 use Rattle.frame_values.specs.declared.found.VoteSignature.{VoteSignature}
-use Rattle.frame_laws.proofs.WrittenItems.{identity_again, key_again, word_is_there}
-use Rattle.frame_laws.proofs.Words.{IsWord, two_words, word_of_identity, words_of-join}
-use Rattle.row_laws.proofs.ItemArguments.{IsSound}
-use Rattle.row_laws.proofs.Spoken.{object_words}
-use Rattle.row_laws.proofs.Ties.{any_gives, AreThere, Gives, Tied, and_gives, and_next, behind_it, first_text}
-use Rattle.row_laws.proofs.Ties.{head_word, in_item, object_means, if_gives, object_tied, plain, said_gives}
-use Rattle.row_laws.proofs.Ties.{same_wanted, tail_words}
-use Rattle.row_laws.proofs.Columns.{identity_gives, key_gives}
+use Rattle.frame_laws.proofs.{WrittenItems.{identity_again, key_again, word_is_there}, Words.{IsWord, two_words}}
+use Rattle.frame_laws.proofs.Words.{word_of_identity, words_of-join}
+use Rattle.row_laws.proofs.{ItemArguments.IsSound, Spoken.object_words, Ties.{any_gives, AreThere, Gives, Tied}}
+use Rattle.row_laws.proofs.Ties.{and_gives, and_next, behind_it, first_text, head_word, in_item, object_means, if_gives}
+use Rattle.row_laws.proofs.{Ties.{object_tied, plain, said_gives, same_wanted, tail_words}, Columns.identity_gives}
+use Rattle.row_laws.proofs.Columns.{key_gives}
 
 -- ---- a signature, by an algorithm that is known or none
 

@@ -1,12 +1,9 @@
 -- An item without its places, and what a document's items say in their order, without places.
-use Rattle.std.proofs.Common.{◌≡◌, ℕ, List, [], ◌∷◌, ◌++◌, Option, Some, None, refl, ap}
-use Rattle.std.specs.Prelude.{map, slice_get}
+use Rattle.std.{proofs.Common.{◌≡◌, ℕ, List, [], ◌∷◌, ◌++◌, Option, Some, None, refl, ap}, specs.Prelude.map}
+use Rattle.std.specs.Prelude.{slice_get}
 use Rattle.item_terms.specs.Items.{Item, Object}
-use Rattle.dirdoc_grammar.specs.Bodies.{body_text}
-use Rattle.dirdoc_grammar.specs.Writing.{NewItem, NewObject, tail, written, written_object_if}
-use Rattle.frame_terms.specs.Keywords.{text_of}
-use Rattle.frame_terms.specs.declared.keyword.Keyword.{Keyword}
-use Rattle.frame_terms.specs.declared.row.Row.{Row}
+use Rattle.dirdoc_grammar.specs.{Bodies.body_text, Writing.{NewItem, NewObject, tail, written, written_object_if}}
+use Rattle.frame_terms.specs.{Keywords.text_of, declared.{keyword.Keyword.Keyword, row.Row.Row}}
 
 -- ---- an item
 

@@ -1,23 +1,14 @@
 -- What is read with places and what is read without them say the same: step by step, from left to right.
 use Rattle.std.proofs.Common.{◌≡◌, ℕ, Bool, true, false, List, [], ◌∷◌, length, take, drop, Option, Some, None, Result}
-use Rattle.std.proofs.Common.{Ok, Err, refl, ap, subst, ◌∙◌}
-use Rattle.std.specs.Prelude.{IfSome, unwrap_or, if◌then◌else◌}
-use Rattle.std.specs.Option.{option_and_then, option_map}
-use Rattle.std.proofs.lemmas.Bool.{false≢true}
-use Rattle.std.specs.List.{list_all}
-use Rattle.item_terms.specs.Items.{Item, Object}
-use Rattle.item_terms.specs.Words.{words_of}
-use Rattle.dirdoc_grammar.specs.Writers.{is_argument, is_argument_byte}
-use Rattle.dirdoc_grammar.specs.Writing.{IsLineRest}
-use Rattle.dirdoc_grammar.specs.Bodies.{decoded_bytes}
+use Rattle.std.{proofs.{Common.{Ok, Err, refl, ap, subst, ◌∙◌}, lemmas.Bool.false≢true}, specs.Prelude.IfSome}
+use Rattle.std.specs.{Prelude.{unwrap_or, if◌then◌else◌}, Option.{option_and_then, option_map}, List.list_all}
+use Rattle.item_terms.specs.{Items.{Item, Object}, Words.words_of}
+use Rattle.dirdoc_grammar.specs.{Writers.{is_argument, is_argument_byte}, Writing.IsLineRest, Bodies.decoded_bytes}
 use Rattle.dirdoc_grammar.specs.InPlace.{InPlace}
-use Rattle.dir_values.proofs.ArgumentWords.{arguments_words}
-use Rattle.dir_values.specs.Arguments.{Argument, arguments_at, texts_of}
-use Rattle.frame_values.specs.Arguments.{arguments_of, field, front, next, others}
-use Rattle.frame_values.specs.Faults.{at_place}
-use Rattle.frame_values.specs.Fields.{is_there, span_if, span_of}
-use Rattle.frame_values.specs.Parts.{bytes_in, part}
-use Rattle.frame_values.specs.Signatures.{has_words, object_if, object_of}
+use Rattle.dir_values.{proofs.ArgumentWords.arguments_words, specs.Arguments.{Argument, arguments_at, texts_of}}
+use Rattle.frame_values.specs.{Arguments.{arguments_of, field, front, next, others}, Faults.at_place, Fields.is_there}
+use Rattle.frame_values.specs.{Fields.{span_if, span_of}, Parts.{bytes_in, part}, Signatures.{has_words, object_if}}
+use Rattle.frame_values.specs.Signatures.{object_of}
 use Rattle.frame_laws.proofs.StandingParts.{at_span}
 use Rattle.row_laws.proofs.ItemArguments.{AreFound, EachWord, IsSound, are_found, both_tests, each_word, others_found}
 use Rattle.row_laws.proofs.Spoken.{object_words}

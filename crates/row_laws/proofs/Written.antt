@@ -1,21 +1,12 @@
 -- An item that may be written suits its row wherever it stands, and says there what it means.
 use Rattle.std.proofs.Common.{◌≡◌, ℕ, zero, suc, ◌+◌, List, [], ◌∷◌, ◌++◌, length, Option, Some, Result, Ok, Err, refl}
-use Rattle.std.proofs.Common.{ap, subst, ◌∙◌, arith}
-use Rattle.std.specs.Prelude.{IfSome}
-use Rattle.std.proofs.lemmas.Bool.{and_right}
+use Rattle.std.{proofs.{Common.{ap, subst, ◌∙◌, arith}, lemmas.Bool.and_right}, specs.Prelude.IfSome}
 use Rattle.item_terms.specs.Words.{begins_dash}
 use Rattle.dirdoc_grammar.specs.Writing.{AreWritable, IsWritable, IsWritableObject, NewItem, is_open, item_text}
 use Rattle.dirdoc_grammar.specs.Writing.{written}
-use Rattle.frame_terms.specs.Tables.{Tables}
-use Rattle.frame_terms.specs.declared.fault.FrameFault.{FrameFault}
-use Rattle.frame_terms.specs.declared.row.Row.{Row}
-use Rattle.frame_laws.proofs.Entries.{AlwaysSuits, Entry}
-use Rattle.frame_laws.proofs.ReadRows.{Stand}
-use Rattle.frame_laws.proofs.WrittenRows.{stand_behind}
-use Rattle.row_laws.proofs.ItemArguments.{IsSound}
-use Rattle.row_laws.proofs.Rows.{Meaning, RowLaws}
-use Rattle.row_laws.proofs.Spoken.{new_item, words_written}
-use Rattle.row_laws.proofs.Ties.{Tied}
+use Rattle.frame_terms.specs.{Tables.Tables, declared.{fault.FrameFault.FrameFault, row.Row.Row}}
+use Rattle.frame_laws.proofs.{Entries.{AlwaysSuits, Entry}, ReadRows.Stand, WrittenRows.stand_behind}
+use Rattle.row_laws.proofs.{ItemArguments.IsSound, Rows.{Meaning, RowLaws}, Spoken.{new_item, words_written}, Ties.Tied}
 
 -- ---- somewhere in an input
 

@@ -5,14 +5,10 @@ use Rattle.key_port.specs.Answers.{Rules}
 use Rattle.consensus_terms.specs.declared.flavour.Flavour.{Flavour}
 use Rattle.vote_pool.specs.Pools.{Pooled}
 use Rattle.period_terms.specs.declared.name.Name.TheVariants as names
-use Rattle.period_terms.specs.declared.state.State.{State}
-use Rattle.period_terms.specs.Readings.{document_of}
-use Rattle.http_words.specs.DigestLists.{digest_list}
-use Rattle.http_words.specs.declared.asked.Asked.{Asked}
+use Rattle.period_terms.specs.{declared.state.State.State, Readings.document_of}
+use Rattle.http_words.specs.{DigestLists.digest_list, declared.asked.Asked.Asked}
 use Rattle.http_words.specs.declared.asked.Asked.TheVariants as asked
-use Rattle.serve_board.specs.Boards.{Locks, Parts}
-use Rattle.serve_board.specs.Going.{Goes}
-use Rattle.serve_board.proofs.Going.{goes_same, goes_sees, goes_looks}
+use Rattle.serve_board.{specs.{Boards.{Locks, Parts}, Going.Goes}, proofs.Going.{goes_same, goes_sees, goes_looks}}
 use Rattle.serve_answers.specs.Finding.{Reads, ReadsCurrent, Finds, FindsNothing, FindsMicros, FindsAsked, flavour_of}
 use Rattle.serve_answers.specs.Finding.{AddsNothing}
 

@@ -2,18 +2,14 @@
 use Rattle.std.proofs.Common.{◌≡◌, ℕ, List, Option, inl, inr, subst, sym, arith}
 use Rattle.dir_bytes.specs.Causes.{Rose}
 use Rattle.key_port.specs.Answers.{Rules}
-use Rattle.http_words.specs.declared.connection.ConnStatus.{ConnStatus}
+use Rattle.http_words.specs.declared.{connection.ConnStatus.ConnStatus, outcome.Outcome.TheVariants.Replied}
+use Rattle.http_words.specs.{declared.replies.Reply.Reply, Connections.Tells, Replies.code_of}
 use Rattle.http_words.specs.declared.connection.ConnStatus.TheVariants as status
-use Rattle.http_words.specs.declared.outcome.Outcome.TheVariants.{Replied}
-use Rattle.http_words.specs.declared.replies.Reply.{Reply}
 use Rattle.http_words.specs.declared.replies.Reply.TheVariants as reply
-use Rattle.http_words.specs.Connections.{Tells}
-use Rattle.http_words.specs.Replies.{code_of}
 use Rattle.period_terms.specs.declared.answer.Offer.{Offer}
 use Rattle.period_terms.specs.declared.answer.Offer.TheVariants as offers
 use Rattle.serve_board.specs.Boards.{Locks, Parts}
-use Rattle.serve_answers.specs.Answers.{IsCaused, TakesVote}
-use Rattle.serve_answers.specs.Words.{reply_to_offer}
+use Rattle.serve_answers.specs.{Answers.{IsCaused, TakesVote}, Words.reply_to_offer}
 
 module _ (faults faults_then : ℕ) where
   offer_caused : (offer : Offer) → IsCaused faults faults_then (reply_to_offer offer)

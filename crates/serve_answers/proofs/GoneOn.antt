@@ -2,15 +2,11 @@
 use Rattle.std.proofs.Common.{◌≡◌, ℕ, Bool, List, inl, inr, sym, subst}
 use Rattle.key_port.specs.Answers.{Rules}
 use Rattle.descriptor_doc.specs.declared.descriptor.Descriptor.{Descriptor}
-use Rattle.flag_rules.specs.declared.relay.RelayFacts.{RelayFacts}
-use Rattle.flag_rules.specs.declared.ruling.Ruling.{Ruling}
+use Rattle.flag_rules.specs.declared.{relay.RelayFacts.RelayFacts, ruling.Ruling.Ruling}
 use Rattle.http_words.specs.declared.replies.Reply.{Reply}
-use Rattle.period_terms.specs.declared.answer.Answer.TheVariants.{Vote}
-use Rattle.period_terms.specs.declared.event.Event.TheVariants.{Offered}
+use Rattle.period_terms.specs.declared.{answer.Answer.TheVariants.Vote, event.Event.TheVariants.Offered}
 use Rattle.period_terms.specs.declared.event.Via.TheVariants.{Upload}
-use Rattle.serve_board.specs.Boards.{Locks, Parts}
-use Rattle.serve_board.specs.Going.{Goes}
-use Rattle.serve_board.proofs.Going.{goes_same, goes_makes, goes_stores}
+use Rattle.serve_board.{specs.{Boards.{Locks, Parts}, Going.Goes}, proofs.Going.{goes_same, goes_makes, goes_stores}}
 use Rattle.serve_answers.specs.Answers.{TakesVote, TakesDescriptor, TakesRuled}
 
 -- a pass that is as it was has gone on

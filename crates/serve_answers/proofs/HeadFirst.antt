@@ -1,8 +1,6 @@
 -- What is read of a request whose head is read first.
 use Rattle.std.proofs.Common.{◌≡◌, List, ℕ, Option, Ok}
-use Rattle.dir_http.specs.declared.head.Head.{Head}
-use Rattle.dir_http.specs.Requests.{ReadsHead}
-use Rattle.dir_http.proofs.WholeRequests.{whole_request}
+use Rattle.dir_http.{specs.{declared.head.Head.Head, Requests.ReadsHead}, proofs.WholeRequests.whole_request}
 use Rattle.http_words.specs.declared.asked.Asked.TheVariants as asked
 use Rattle.http_words.specs.Paths.{asked_by}
 use Rattle.vote_terms.specs.Votes.{ReadVote}

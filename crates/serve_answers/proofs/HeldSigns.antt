@@ -1,14 +1,9 @@
 -- Signatures that are offered one after the other.
-use Rattle.std.proofs.Common.{◌≡◌, ℕ, ◌+◌, ◌≤◌, length, List, [], ◌∷◌}
-use Rattle.std.proofs.Common.{◌++◌, Bool, true, false, cond, refl, subst, arith}
-use Rattle.std.specs.Int.{from_bool}
-use Rattle.std.proofs.lemmas.List.{length_push}
-use Rattle.std.proofs.lemmas.List.Sums.{sum_by-append}
+use Rattle.std.proofs.Common.{◌≡◌, ℕ, ◌+◌, ◌≤◌, length, List, [], ◌∷◌, ◌++◌, Bool, true, false, cond, refl, subst}
+use Rattle.std.{proofs.{Common.arith, lemmas.List.{length_push, Sums.sum_by-append}}, specs.Int.from_bool}
 use Rattle.key_port.specs.Answers.{Rules}
-use Rattle.period_terms.specs.declared.answer.Answer.TheVariants.{Signature}
-use Rattle.period_terms.specs.declared.answer.SignIn.{SignIn}
-use Rattle.period_terms.specs.declared.event.Event.TheVariants.{SignedIn}
-use Rattle.period_terms.specs.declared.signature.OfferedSignature.{OfferedSignature}
+use Rattle.period_terms.specs.declared.answer.{Answer.TheVariants.Signature, SignIn.SignIn}
+use Rattle.period_terms.specs.declared.{event.Event.TheVariants.SignedIn, signature.OfferedSignature.OfferedSignature}
 use Rattle.serve_board.specs.Boards.{Locks, Parts, Makes}
 use Rattle.serve_answers.specs.Handling.{SignsEach, SignsHeld, is_held}
 

@@ -1,16 +1,11 @@
 -- How many lines of signatures there are: those that were accepted, those that are skipped and those that were refused.
-use Rattle.std.proofs.Common.{◌≡◌, ℕ, ◌+◌, true, false, not, List, [], ◌∷◌, length, Option, Some, None}
-use Rattle.std.proofs.Common.{refl, ap, cond, arith}
-use Rattle.std.proofs.lemmas.List.{length-map}
-use Rattle.std.specs.Prelude.{filter, is_none}
-use Rattle.std.specs.List.{filter_map, cons_option}
+use Rattle.std.proofs.Common.{◌≡◌, ℕ, ◌+◌, true, false, not, List, [], ◌∷◌, length, Option, Some, None, refl, ap, cond}
+use Rattle.std.{proofs.{Common.arith, lemmas.List.length-map}, specs.{Prelude.{filter, is_none}, List.filter_map}}
+use Rattle.std.specs.List.{cons_option}
 use Rattle.key_port.specs.Answers.{Rules, Steps}
-use Rattle.detached_doc.specs.declared.detached.Detached.{Detached}
-use Rattle.detached_doc.specs.declared.detached.DetachedLine.{DetachedLine}
-use Rattle.period_terms.specs.declared.signature.OfferedSignature.{OfferedSignature}
-use Rattle.period_terms.specs.declared.view.PeriodView.{PeriodView}
-use Rattle.checked_sigs.specs.Asking.{offered_by}
-use Rattle.checked_sigs.specs.Checks.{Judgement, Tally, TellsLines}
+use Rattle.detached_doc.specs.declared.detached.{Detached.Detached, DetachedLine.DetachedLine}
+use Rattle.period_terms.specs.declared.{signature.OfferedSignature.OfferedSignature, view.PeriodView.PeriodView}
+use Rattle.checked_sigs.specs.{Asking.offered_by, Checks.{Judgement, Tally, TellsLines}}
 
 module _ {A B : Type 0} where
   one_more_is_found_or_left : (o : Option B) (x : A) (found : List B) (rest : List A) (n : ℕ) → length found + length rest ≡ n

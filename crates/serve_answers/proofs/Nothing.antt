@@ -2,8 +2,7 @@
 use Rattle.std.proofs.Common.{◌≡◌, Result, Ok, Err, OnErr, ap, refl, sym, subst}
 use Rattle.key_port.specs.Answers.{Rules}
 use Rattle.period_terms.specs.declared.state.State.{State}
-use Rattle.serve_board.specs.Boards.{Locks, Parts, Sees}
-use Rattle.serve_board.proofs.Going.{goes_same, goes_sees}
+use Rattle.serve_board.{specs.Boards.{Locks, Parts, Sees}, proofs.Going.{goes_same, goes_sees}}
 use Rattle.serve_answers.specs.Finding.{AddsNothing}
 
 module _ (rules : Rules) (board : Locks) (before then : Parts) where

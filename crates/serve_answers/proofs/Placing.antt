@@ -1,24 +1,18 @@
 -- Places in a pool, and what stands there.
-use Rattle.std.proofs.Common.{◌≡◌, ◌<◌, ◌≤◌, ◌+◌, ℕ, Bool, true, false, List, [], ◌∷◌, ◌++◌, length, take, drop}
-use Rattle.std.proofs.Common.{get_or, refl, sym, ap, ap₂, ◌∙◌, ⊎_elim, append-nil}
-use Rattle.std.proofs.lemmas.Bool.{cases_lt, true≢false}
-use Rattle.std.specs.Prelude.{Contains, filter, ◌||◌, Result, Ok, Err, is_ok}
-use Rattle.std.specs.List.{find, list_any, slice_get}
-use Rattle.std.specs.List.Sorted.{IsSorted, IsPermutation, IsBinarySearchResult, IsSearchInRange}
-use Rattle.std.specs.Ordering.{nat_cmp, is_eq}
-use Rattle.std.specs.Cmp.Lexicographic.{slice_cmp, nat_list_cmp_total, texts_ties, bytes_decides}
-use Rattle.std.specs.Str.{bytes_eq}
-use Rattle.std.proofs.lemmas.Option.{slice_get_read}
-use Rattle.std.proofs.lemmas.List.{at_drop_more, take_more}
-use Rattle.std.proofs.lemmas.List.Elements.{filter_map-append, filter_more, All-from_all_within, Contains-get_or}
-use Rattle.std.proofs.lemmas.List.Concat.{flat_map-append}
-use Rattle.std.proofs.lemmas.List.Folds.{list_any_at, list_any_none}
-use Rattle.std.proofs.lemmas.List.Sorted.{list_any-IsPermutation, searchable_from_sorted}
+use Rattle.std.proofs.Common.{◌≡◌, ◌<◌, ◌≤◌, ◌+◌, ℕ, Bool, true, false, List, [], ◌∷◌, ◌++◌, length, take, drop, get_or}
+use Rattle.std.proofs.{Common.{refl, sym, ap, ap₂, ◌∙◌, ⊎_elim, append-nil}, lemmas.Bool.{cases_lt, true≢false}}
+use Rattle.std.proofs.lemmas.{Option.slice_get_read, List.{at_drop_more, take_more, Elements.filter_map-append}}
+use Rattle.std.proofs.lemmas.List.{Elements.{filter_more, All-from_all_within, Contains-get_or}, Concat.flat_map-append}
+use Rattle.std.proofs.lemmas.List.{Folds.{list_any_at, list_any_none}, Sorted.list_any-IsPermutation}
+use Rattle.std.{proofs.lemmas.List.Sorted.searchable_from_sorted, specs.Prelude.{Contains, filter, ◌||◌, Result, Ok}}
+use Rattle.std.specs.{Prelude.{Err, is_ok}, List.{find, list_any, slice_get, Sorted.{IsSorted, IsPermutation}}}
+use Rattle.std.specs.{List.Sorted.{IsBinarySearchResult, IsSearchInRange}, Ordering.{nat_cmp, is_eq}}
+use Rattle.std.specs.{Cmp.Lexicographic.{slice_cmp, nat_list_cmp_total, texts_ties, bytes_decides}, Str.bytes_eq}
 use Rattle.dir_values.proofs.Orders.{same_text}
 use Rattle.descriptor_doc.specs.declared.descriptor.Descriptor.{Descriptor}
 use Rattle.vote_pool.specs.Summaries.{family_digest_of, micro_digest_of}
-use Rattle.serve_answers.specs.Documents.{has_digest, micro_if, micro_with, micros_with, text_with}
-use Rattle.serve_answers.specs.Places.{at_places, has_one, is_asked}
+use Rattle.serve_answers.specs.{Documents.{has_digest, micro_if, micro_with, micros_with, text_with}, Places.at_places}
+use Rattle.serve_answers.specs.Places.{has_one, is_asked}
 
 -- what a search by halves says of texts that ascend
 module _ (sorted : List (List ℕ)) (text : List ℕ) (up : IsSorted (slice_cmp nat_cmp) sorted) where

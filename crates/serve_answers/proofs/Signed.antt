@@ -1,17 +1,15 @@
 -- What comes of signatures that are offered, from what the calls tell.
-use Rattle.std.proofs.Common.{◌≡◌, ℕ, List, Option, Some, Ok, inr, ap, ◌∙◌, subst}
-use Rattle.std.specs.Prelude.{MatchResult, Result}
+use Rattle.std.{proofs.Common.{◌≡◌, ℕ, List, Option, Some, Ok, inr, ap, ◌∙◌, subst}, specs.Prelude.MatchResult}
+use Rattle.std.specs.Prelude.{Result}
 use Rattle.dir_bytes.specs.declared.fault.Memory.{Memory}
 use Rattle.key_port.specs.Answers.{Rules, Steps}
 use Rattle.checked_sigs.specs.Checks.{ChecksAll, Tally}
 use Rattle.http_words.specs.declared.replies.Reply.{Reply}
 use Rattle.http_words.specs.declared.replies.Reply.TheVariants as reply
 use Rattle.period_core.specs.Views.{view_of}
-use Rattle.period_terms.specs.declared.state.State.{State}
-use Rattle.period_terms.specs.declared.view.PeriodView.{PeriodView}
+use Rattle.period_terms.specs.declared.{state.State.State, view.PeriodView.PeriodView}
 use Rattle.serve_board.specs.Boards.{Locks, Parts, Sees}
-use Rattle.serve_answers.specs.Handling.{OffersAccepted, SeesView, TakesSignatures}
-use Rattle.serve_answers.proofs.LineCounts.{line_count}
+use Rattle.serve_answers.{specs.Handling.{OffersAccepted, SeesView, TakesSignatures}, proofs.LineCounts.line_count}
 
 module _ (rules : Rules) (board : Locks) (before : Parts) where
   -- what was seen to check signatures against

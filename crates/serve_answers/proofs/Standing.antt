@@ -1,17 +1,14 @@
 -- What is read as the current consensus was published.
-use Rattle.std.proofs.Common.{◌≡◌, ℕ, List, Option, Some, None, Result, Ok, Err, sym}
-use Rattle.std.specs.Prelude.{MatchResult}
+use Rattle.std.{proofs.Common.{◌≡◌, ℕ, List, Option, Some, None, Result, Ok, Err, sym}, specs.Prelude.MatchResult}
 use Rattle.dir_bytes.specs.declared.fault.Memory.{Memory}
 use Rattle.key_port.specs.Answers.{Rules}
 use Rattle.consensus_terms.specs.declared.flavour.Flavour.{Flavour}
 use Rattle.period_lock.specs.Turns.{entries}
 use Rattle.period_terms.specs.declared.name.Name.TheVariants as names
-use Rattle.period_terms.specs.declared.state.State.{State}
-use Rattle.period_terms.specs.Readings.{document_of}
+use Rattle.period_terms.specs.{declared.state.State.State, Readings.document_of}
 use Rattle.period_laws.proofs.Currents.{were_published}
 use Rattle.serve_board.specs.Boards.{Locks, Parts, Sees}
-use Rattle.serve_answers.specs.Finding.{IsPublished, ReadsCurrent}
-use Rattle.serve_answers.proofs.Nothing.{sees_adds}
+use Rattle.serve_answers.{specs.Finding.{IsPublished, ReadsCurrent}, proofs.Nothing.sees_adds}
 
 module _ (rules : Rules) (board : Locks) (before then : Parts) (flavour : Flavour) where
   stood : (found : Option (List ℕ))

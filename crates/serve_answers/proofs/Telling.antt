@@ -1,12 +1,9 @@
 -- A request of which something came is served where that is told.
 use Rattle.std.proofs.Common.{◌≡◌, ℕ, List, Option, Ok, inr, subst}
 use Rattle.dir_http.specs.Requests.{ReadRequest, ReadsWhole}
-use Rattle.http_words.specs.declared.asked.Asked.{Asked}
-use Rattle.http_words.specs.declared.connection.ConnStatus.{ConnStatus}
+use Rattle.http_words.specs.declared.{asked.Asked.Asked, connection.ConnStatus.ConnStatus, outcome.Outcome.Outcome}
+use Rattle.http_words.specs.{Connections.{Handles, Tells}, Paths.asked_by}
 use Rattle.http_words.specs.declared.connection.ConnStatus.TheVariants as status
-use Rattle.http_words.specs.declared.outcome.Outcome.{Outcome}
-use Rattle.http_words.specs.Connections.{Handles, Tells}
-use Rattle.http_words.specs.Paths.{asked_by}
 use Rattle.serve_board.specs.Boards.{Parts}
 use Rattle.serve_answers.specs.Connections.{Serves}
 

@@ -5,26 +5,21 @@ use Rattle.key_port.specs.Answers.{Rules}
 use Rattle.descriptor_doc.specs.Checks as descriptors
 use Rattle.descriptor_doc.specs.declared.checking.DescriptorRefusal.{DescriptorRefusal}
 use Rattle.descriptor_doc.specs.declared.descriptor.Descriptor.{Descriptor}
-use Rattle.flag_rules.specs.declared.relay.RelayFacts.{RelayFacts}
-use Rattle.flag_rules.specs.declared.ruling.Ruling.{Ruling}
-use Rattle.flag_rules.specs.declared.ruling.Ruling.TheVariants.{Reject}
+use Rattle.flag_rules.specs.declared.{relay.RelayFacts.RelayFacts, ruling.Ruling.{Ruling, TheVariants.Reject}}
 use Rattle.http_words.specs.declared.replies.Reply.{Reply}
 use Rattle.http_words.specs.declared.replies.Reply.TheVariants as reply
 use Rattle.http_words.specs.declared.word.Word.TheVariants as word
-use Rattle.period_terms.specs.declared.answer.Answer.TheVariants.{Vote}
-use Rattle.period_terms.specs.declared.answer.Offer.{Offer}
-use Rattle.period_terms.specs.declared.event.Event.TheVariants.{Offered}
+use Rattle.period_terms.specs.declared.{answer.{Answer.TheVariants.Vote, Offer.Offer}, event.Event.TheVariants.Offered}
 use Rattle.period_terms.specs.declared.event.Via.TheVariants.{Upload}
 use Rattle.vote_doc.specs.Checks as votes
 use Rattle.vote_doc.specs.declared.check.VoteRefusal.{VoteRefusal}
 use Rattle.vote_maker.specs.Relays.{known_of}
 use Rattle.vote_pool.specs.declared.answers.Keep.{Keep}
-use Rattle.vote_terms.specs.Acceptable.{IsAcceptable}
-use Rattle.vote_terms.specs.Votes.{ReadVote}
+use Rattle.vote_terms.specs.{Acceptable.IsAcceptable, Votes.ReadVote}
 use Rattle.serve_board.specs.Boards.{Locks, Parts, Makes, Stores}
 use Rattle.lone_vote.specs.Alone.{IsVote, NoneIs}
-use Rattle.serve_answers.specs.Uploads.{IsDescriptor}
-use Rattle.serve_answers.specs.Words.{reply_to_offer, reply_to_keep, reply_to_vote, reply_to_descriptor}
+use Rattle.serve_answers.specs.{Uploads.IsDescriptor, Words.{reply_to_offer, reply_to_keep, reply_to_vote}}
+use Rattle.serve_answers.specs.Words.{reply_to_descriptor}
 
 -- a fault of the verifier is told only where its count rose, and want of memory is never told so
 abbrev pub IsCaused : ℕ → ℕ → Reply → Type 0

@@ -1,11 +1,9 @@
 -- What comes of one connection.
 use Rattle.std.specs.Prelude.{◌≡◌, ◌⊎◌, ℕ, List, Option}
 use Rattle.dir_bytes.specs.Causes.{Rose}
-use Rattle.http_words.specs.declared.asked.Asked.{Asked}
-use Rattle.http_words.specs.declared.connection.ConnStatus.{ConnStatus}
-use Rattle.http_words.specs.declared.connection.ConnStatus.TheVariants as status
-use Rattle.http_words.specs.declared.outcome.Outcome.{Outcome}
+use Rattle.http_words.specs.declared.{asked.Asked.Asked, connection.ConnStatus.ConnStatus, outcome.Outcome.Outcome}
 use Rattle.http_words.specs.Connections.{Handles, Answers, Breaks, TriesShortage}
+use Rattle.http_words.specs.declared.connection.ConnStatus.TheVariants as status
 use Rattle.serve_board.specs.Boards.{Parts}
 use Rattle.serve_answers.specs.Finding.{AddsNothing}
 

@@ -1,6 +1,5 @@
 -- The documents that an authority gives besides single votes and consensuses (dir-spec, "General-use HTTP URLs").
-use Rattle.std.specs.Prelude.{ℕ, Bool, ◌||◌, List, [], Option, Some, None, if◌then◌else◌}
-use Rattle.std.specs.List.{find, flat_map}
+use Rattle.std.specs.{Prelude.{ℕ, Bool, ◌||◌, List, [], Option, Some, None, if◌then◌else◌}, List.{find, flat_map}}
 use Rattle.std.specs.Str.{bytes_eq}
 use Rattle.vote_terms.specs.Votes.{ReadVote}
 use Rattle.descriptor_doc.specs.declared.descriptor.Descriptor.{Descriptor}

@@ -4,23 +4,17 @@ use Rattle.dir_bytes.specs.declared.fault.Memory.{Memory}
 use Rattle.key_port.specs.Answers.{Rules}
 use Rattle.consensus_terms.specs.declared.flavour.Flavour.{Flavour}
 use Rattle.consensus_terms.specs.declared.flavour.Flavour.TheVariants as flavour
-use Rattle.http_words.specs.DigestLists.{digest_list}
-use Rattle.http_words.specs.declared.asked.Asked.{Asked}
+use Rattle.http_words.specs.{DigestLists.digest_list, declared.asked.{Asked.Asked, Form.Form}, Found.unless_empty}
 use Rattle.http_words.specs.declared.asked.Asked.TheVariants as asked
-use Rattle.http_words.specs.declared.asked.Form.{Form}
 use Rattle.http_words.specs.declared.asked.Form.TheVariants as form
 use Rattle.vote_terms.specs.Held.{vote_of}
 use Rattle.vote_pool.specs.Pools.{Pooled, descriptor_for}
 use Rattle.period_lock.specs.Turns.{entries}
 use Rattle.period_terms.specs.declared.name.Name.TheVariants as names
-use Rattle.period_terms.specs.declared.state.State.{State}
-use Rattle.period_terms.specs.Histories.{IsStart}
-use Rattle.period_terms.specs.Readings.{document_of, next_consensus_of}
+use Rattle.period_terms.specs.{declared.state.State.State, Histories.IsStart, Readings.{document_of, next_consensus_of}}
 use Rattle.period_laws.specs.Publications.{WasPublished}
 use Rattle.checked_sigs.specs.Next.{next_signatures_of}
-use Rattle.serve_board.specs.Boards.{Locks, Parts, Sees, Looks}
-use Rattle.serve_board.specs.Going.{Goes}
-use Rattle.http_words.specs.Found.{unless_empty}
+use Rattle.serve_board.specs.{Boards.{Locks, Parts, Sees, Looks}, Going.Goes}
 use Rattle.serve_answers.specs.Documents.{certificates_of, certificate_if, descriptors_of, descriptor_if, micros_with}
 
 -- the flavour of a consensus

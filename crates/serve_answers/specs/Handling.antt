@@ -1,31 +1,24 @@
 -- What comes of uploaded signatures, and of each request, and which events were made for it.
-use Rattle.std.specs.Prelude.{◌≡◌, ◌⊎◌, ℕ, ◌+◌, List, [], ◌∷◌, length, count_by, Bool, true, false}
-use Rattle.std.specs.Prelude.{Option, Some, None, Ok}
+use Rattle.std.specs.Prelude.{◌≡◌, ◌⊎◌, ℕ, ◌+◌, List, [], ◌∷◌, length, count_by, Bool, true, false, Option, Some, None}
+use Rattle.std.specs.Prelude.{Ok}
 use Rattle.key_port.specs.Answers.{Rules, Steps}
 use Rattle.checked_sigs.specs.Checks as checks
-use Rattle.checked_sigs.specs.Checks.{Tally}
-use Rattle.checked_sigs.specs.declared.report.SigRefusal.{SigRefusal}
+use Rattle.checked_sigs.specs.{Checks.Tally, declared.report.SigRefusal.SigRefusal}
 use Rattle.checked_sigs.specs.declared.report.SigRefusal.TheVariants as refusals
 use Rattle.detached_doc.specs.declared.detached.Detached.{Detached}
-use Rattle.flag_rules.specs.declared.relay.RelayFacts.{RelayFacts}
-use Rattle.flag_rules.specs.declared.ruling.Ruling.{Ruling}
-use Rattle.http_words.specs.declared.outcome.Outcome.{Outcome}
-use Rattle.http_words.specs.declared.outcome.Outcome.TheVariants.{Replied, Found}
-use Rattle.http_words.specs.declared.asked.Asked.{Asked}
-use Rattle.http_words.specs.declared.asked.Asked.TheVariants as asked
+use Rattle.flag_rules.specs.declared.{relay.RelayFacts.RelayFacts, ruling.Ruling.Ruling}
+use Rattle.http_words.specs.declared.{outcome.Outcome.{Outcome, TheVariants.{Replied, Found}}, asked.Asked.Asked}
 use Rattle.http_words.specs.declared.replies.Reply.{Reply}
+use Rattle.http_words.specs.declared.asked.Asked.TheVariants as asked
 use Rattle.http_words.specs.declared.replies.Reply.TheVariants as reply
 use Rattle.http_words.specs.declared.word.Word.TheVariants as word
 use Rattle.period_core.specs.Views.{view_of}
-use Rattle.period_terms.specs.declared.answer.Answer.TheVariants.{Signature}
-use Rattle.period_terms.specs.declared.answer.SignIn.{SignIn}
-use Rattle.period_terms.specs.declared.answer.SignIn.TheVariants as signs
-use Rattle.period_terms.specs.declared.event.Event.TheVariants.{SignedIn}
-use Rattle.period_terms.specs.declared.signature.OfferedSignature.{OfferedSignature}
+use Rattle.period_terms.specs.declared.answer.{Answer.TheVariants.Signature, SignIn.SignIn}
+use Rattle.period_terms.specs.declared.{event.Event.TheVariants.SignedIn, signature.OfferedSignature.OfferedSignature}
 use Rattle.period_terms.specs.declared.view.PeriodView.{PeriodView}
+use Rattle.period_terms.specs.declared.answer.SignIn.TheVariants as signs
 use Rattle.serve_board.specs.Boards.{Locks, Parts, Makes, Sees}
-use Rattle.serve_answers.specs.Finding.{FindsAsked}
-use Rattle.serve_answers.specs.Answers.{IsCaused, TakesVote, TakesDescriptor}
+use Rattle.serve_answers.specs.{Finding.FindsAsked, Answers.{IsCaused, TakesVote, TakesDescriptor}}
 
 -- ---- signatures
 

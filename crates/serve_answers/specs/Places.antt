@@ -1,7 +1,5 @@
 -- What the private functions of this crate say.
-use Rattle.std.specs.Prelude.{ℕ, Bool, ◌||◌, List}
-use Rattle.std.specs.List.{filter_map, list_any, slice_get}
-use Rattle.std.specs.Str.{bytes_eq}
+use Rattle.std.specs.{Prelude.{ℕ, Bool, ◌||◌, List}, List.{filter_map, list_any, slice_get}, Str.bytes_eq}
 use Rattle.descriptor_doc.specs.declared.descriptor.Descriptor.{Descriptor}
 use Rattle.vote_pool.specs.Summaries.{family_digest_of, micro_digest_of}
 

@@ -1,10 +1,8 @@
 -- What is read of a connection, as private functions of this crate say it.
 use Rattle.std.specs.Prelude.{◌≡◌, ◌<◌, ◌^◌, ℕ, List, length, Option, Ok, Err}
-use Rattle.dir_http.specs.declared.length.Method2.{Method2}
-use Rattle.dir_http.specs.Requests.{ReadRequest, ReadsWhole}
-use Rattle.http_words.specs.declared.asked.Asked.{Asked}
+use Rattle.dir_http.specs.{declared.length.Method2.Method2, Requests.{ReadRequest, ReadsWhole}}
+use Rattle.http_words.specs.{declared.asked.Asked.Asked, Paths.asked_by}
 use Rattle.http_words.specs.declared.asked.Asked.TheVariants as asked
-use Rattle.http_words.specs.Paths.{asked_by}
 use Rattle.vote_terms.specs.Votes.{ReadVote}
 use Rattle.lone_vote.specs.Alone.{IsFound, IsVote}
 use Rattle.serve_answers.specs.declared.incoming.Incoming.{Incoming}

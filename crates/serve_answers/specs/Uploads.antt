@@ -1,8 +1,7 @@
 -- What the body of an uploaded descriptor is.
 use Rattle.std.specs.Prelude.{ℕ, List}
 use Rattle.count_terms.specs.declared.newest.Newest.{Newest}
-use Rattle.descriptor_doc.specs.Reading.{descriptor_under}
-use Rattle.descriptor_doc.specs.declared.descriptor.Descriptor.{Descriptor}
+use Rattle.descriptor_doc.specs.{Reading.descriptor_under, declared.descriptor.Descriptor.Descriptor}
 use Rattle.blank_lines.specs.Keywords.{before_extra}
 use Rattle.lone_vote.specs.Alone.{Stands}
 

@@ -3,8 +3,7 @@ use Rattle.authority_certs.specs.declared.checking.CertAnswer.{CertAnswer}
 use Rattle.authority_certs.specs.declared.checking.CertAnswer.TheVariants as certs
 use Rattle.descriptor_doc.specs.declared.checking.DescriptorRefusal.{DescriptorRefusal}
 use Rattle.descriptor_doc.specs.declared.checking.DescriptorRefusal.TheVariants as descriptors
-use Rattle.http_words.specs.declared.replies.Reply.{Reply}
-use Rattle.http_words.specs.declared.replies.Reply.TheVariants.{Done, Refused, VerifierFault}
+use Rattle.http_words.specs.declared.replies.Reply.{Reply, TheVariants.{Done, Refused, VerifierFault}}
 use Rattle.http_words.specs.declared.word.Word.TheVariants as word
 use Rattle.period_terms.specs.declared.answer.Offer.{Offer}
 use Rattle.period_terms.specs.declared.answer.Offer.TheVariants as offers

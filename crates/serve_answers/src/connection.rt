@@ -3,10 +3,8 @@ ghost use Rattle.std.specs.Prelude.{◌≡◌, ◌≢◌, ◌≤◌};
 ghost use Rattle.dir_bytes.specs.Causes.{Rose};
 ghost use Rattle.key_port.specs.Answers.{rules};
 ghost use Rattle.flag_rules.specs.Rules.{KeepsTo};
-ghost use Rattle.serve_board.specs.Boards.{IsAt};
-ghost use Rattle.serve_board.specs.Going.{Goes};
-ghost use Rattle.serve_answers.specs.Handling.{Does};
-ghost use Rattle.serve_answers.specs.Connections.{Serves};
+ghost use Rattle.serve_board.specs.{Boards.IsAt, Going.Goes};
+ghost use Rattle.serve_answers.specs.{Handling.Does, Connections.Serves};
 
 use crate::handling::handle;
 use crate::incoming::{Incoming, read_incoming};

@@ -2,8 +2,7 @@
 ghost use Rattle.std.specs.Prelude.{◌≡◌};
 ghost use Rattle.key_port.specs.Answers.{rules};
 ghost use Rattle.http_words.specs.DigestLists.{digest_list};
-ghost use Rattle.serve_board.specs.Going.{Goes};
-ghost use Rattle.serve_board.specs.Boards.{IsAt};
+ghost use Rattle.serve_board.specs.{Going.Goes, Boards.IsAt};
 ghost use Rattle.serve_answers.specs.Finding as finding;
 ghost use Rattle.serve_answers.specs.Finding.{FindsAsked, FindsMicros};
 

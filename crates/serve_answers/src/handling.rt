@@ -2,10 +2,8 @@
 ghost use Rattle.std.specs.Prelude.{◌≡◌, ◌≤◌, ◌<◌, ◌^◌, IfOk, OnErr, length};
 ghost use Rattle.key_port.specs.Answers.{rules};
 ghost use Rattle.flag_rules.specs.Rules.{KeepsTo};
-ghost use Rattle.serve_board.specs.Boards.{IsAt};
-ghost use Rattle.serve_board.specs.Going.{Goes};
-ghost use Rattle.serve_answers.specs.Finding.{AddsNothing};
-ghost use Rattle.serve_answers.specs.Handling.{Does, Finds, IsCausedOutcome};
+ghost use Rattle.serve_board.specs.{Boards.IsAt, Going.Goes};
+ghost use Rattle.serve_answers.specs.{Finding.AddsNothing, Handling.{Does, Finds, IsCausedOutcome}};
 
 use crate::descriptors::take_descriptor;
 use crate::finding::find;

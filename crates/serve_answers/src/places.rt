@@ -1,10 +1,6 @@
 // Where the microdescriptors that are asked for stand in a pool.
-ghost use Rattle.std.specs.Prelude.{◌≡◌, ◌<◌, All, IfOk, filter, length};
-ghost use Rattle.std.specs.Cmp.Lexicographic.{slice_cmp};
-ghost use Rattle.std.specs.List.{list_any};
-ghost use Rattle.std.specs.List.Sorted.{IsPermutation, IsSorted};
-ghost use Rattle.std.specs.Ordering.{nat_cmp};
-ghost use Rattle.std.specs.Str.{bytes_eq};
+ghost use Rattle.std.specs.{Prelude.{◌≡◌, ◌<◌, All, IfOk, filter, length}, Cmp.Lexicographic.slice_cmp, List.list_any};
+ghost use Rattle.std.specs.{List.Sorted.{IsPermutation, IsSorted}, Ordering.nat_cmp, Str.bytes_eq};
 ghost use Rattle.serve_answers.specs.Places as lending;
 
 use dir_bytes::Memory;

@@ -2,11 +2,9 @@
 ghost use Rattle.std.specs.Prelude.{◌≡◌, ◌≤◌, ◌<◌, ◌^◌, IfOk, OnErr, length};
 ghost use Rattle.key_port.specs.Answers.{rules};
 ghost use Rattle.checked_sigs.specs.Checks.{tally_of};
-ghost use Rattle.serve_board.specs.Boards.{IsAt};
-ghost use Rattle.serve_board.specs.Going.{Goes};
-ghost use Rattle.serve_answers.specs.Finding.{AddsNothing};
+ghost use Rattle.serve_board.specs.{Boards.IsAt, Going.Goes};
+ghost use Rattle.serve_answers.specs.{Finding.AddsNothing, Handling.{OffersAccepted, SignsHeld, TakesSignatures}};
 ghost use Rattle.serve_answers.specs.Handling as handling;
-ghost use Rattle.serve_answers.specs.Handling.{OffersAccepted, SignsHeld, TakesSignatures};
 
 use checked_sigs::{SigRefusal, SigReport, check_signatures};
 use dir_bytes::Memory;

@@ -3,14 +3,10 @@ use Rattle.std.proofs.Common.{◌≡◌, List, [], ◌++◌, Option, refl, sym, 
 use mathlib.Core.List.{IsPrefix}
 use Rattle.key_port.specs.Answers.{Rules}
 use Rattle.descriptor_doc.specs.declared.descriptor.Descriptor.{Descriptor}
-use Rattle.vote_pool.specs.declared.answers.Keep.{Keep}
-use Rattle.vote_pool.specs.Pools.{Pooled}
+use Rattle.vote_pool.specs.{declared.answers.Keep.Keep, Pools.Pooled}
 use Rattle.period_lock.specs.Turns.{Knowledge, Lock, entry_by}
-use Rattle.period_terms.specs.declared.answer.Answer.{Answer}
-use Rattle.period_terms.specs.declared.event.Event.{Event}
-use Rattle.period_terms.specs.declared.state.State.{State}
-use Rattle.serve_board.specs.Boards.{Locks, Parts, Makes, Sees, Stores, Looks}
-use Rattle.serve_board.specs.Turns.{TakesEvent, TakesReading}
+use Rattle.period_terms.specs.declared.{answer.Answer.Answer, event.Event.Event, state.State.State}
+use Rattle.serve_board.specs.{Boards.{Locks, Parts, Makes, Sees, Stores, Looks}, Turns.{TakesEvent, TakesReading}}
 use Rattle.serve_board.specs.Going.{GoesOn, Goes}
 
 module _ {X : Type 0} where

@@ -1,12 +1,10 @@
 -- What a closed board leaves.
-use Rattle.std.proofs.Common.{◌≡◌, List, map, subst}
+use Rattle.std.proofs.{Common.{◌≡◌, List, map, subst}, lemmas.List.Elements.{All-same, All-map, All-weaker}}
 use Rattle.std.specs.Prelude.{All}
-use Rattle.std.proofs.lemmas.List.Elements.{All-same, All-map, All-weaker}
 use Rattle.descriptor_doc.specs.declared.descriptor.Descriptor.{Descriptor}
 use Rattle.vote_pool.specs.Pools.{Pooled}
 use Rattle.period_lock.specs.Turns.{Lock, Knowledge, IsOf, AreOf, EndsIn}
-use Rattle.period_terms.specs.declared.entry.Entry.{Entry}
-use Rattle.period_terms.specs.declared.state.State.{State}
+use Rattle.period_terms.specs.declared.{entry.Entry.Entry, state.State.State}
 use Rattle.serve_board.specs.Boards.{Locks, Parts, IsAt}
 
 module _ (board : Locks) (passes : List Parts) (at : All (IsAt board) passes) where

@@ -1,29 +1,18 @@
 -- What an advance finds and leaves, and what the pass then knows.
-use Rattle.std.proofs.Common.{◌≡◌, ℕ, List, ◌++◌, Option, Result, Ok, Err, option_to_list}
-use Rattle.std.proofs.Common.{refl, sym, ap, ◌∙◌, subst, append-nil}
-use Rattle.std.specs.Prelude.{IfOk, OnErr}
+use Rattle.std.proofs.Common.{◌≡◌, ℕ, List, ◌++◌, Option, Result, Ok, Err, option_to_list, refl, sym, ap, ◌∙◌, subst}
+use Rattle.std.{proofs.Common.append-nil, specs.Prelude.{IfOk, OnErr}}
 use Rattle.dir_bytes.specs.declared.fault.Memory.{Memory}
 use Rattle.key_port.specs.Answers.{Relation, Rules}
 use Rattle.period_core.specs.Signing.{Advances}
 use Rattle.period_lock.specs.Turns.{Knowledge, OwnsItsPart, TakesTurn, entries, entry_by}
-use Rattle.period_terms.specs.declared.answer.Advance.{Advance}
-use Rattle.period_terms.specs.declared.answer.Answer.TheVariants.{Moment}
-use Rattle.period_terms.specs.declared.entry.Entry.{Entry}
-use Rattle.period_terms.specs.declared.event.Event.TheVariants.{Advanced}
-use Rattle.period_terms.specs.declared.event.Signing.{Signing}
-use Rattle.period_terms.specs.declared.state.State.{State}
-use Rattle.period_terms.specs.Advances.{MayGiveAt, advance, given_told}
-use Rattle.period_terms.specs.Histories.{after, entry_if}
-use Rattle.period_laws.specs.Checked.{IsCheckedHistory}
-use Rattle.period_laws.proofs.Verified.{anyone_may}
-use Rattle.period_terms.specs.States.{Outcome, vote_of}
-use Rattle.period_laws.proofs.Given.{told}
+use Rattle.period_terms.specs.declared.{answer.{Advance.Advance, Answer.TheVariants.Moment}, entry.Entry.Entry}
+use Rattle.period_terms.specs.declared.{event.{Event.TheVariants.Advanced, Signing.Signing}, state.State.State}
+use Rattle.period_terms.specs.{Advances.{MayGiveAt, advance, given_told}, Histories.{after, entry_if}, States.Outcome}
+use Rattle.period_terms.specs.States.{vote_of}
+use Rattle.period_laws.{specs.Checked.IsCheckedHistory, proofs.{Verified.anyone_may, Given.told}}
 use Rattle.serve_board.specs.Boards as boards
-use Rattle.serve_board.specs.Boards.{Locks, Parts, answer_at}
-use Rattle.serve_board.specs.Events.{MovesThere, moved_entry}
-use Rattle.serve_board.specs.Turns.{Stands}
-use Rattle.serve_board.proofs.Standing.{event_told, reading_told}
-use Rattle.serve_board.proofs.PeriodStates.{steps_there, stands_more}
+use Rattle.serve_board.specs.{Boards.{Locks, Parts, answer_at}, Events.{MovesThere, moved_entry}, Turns.Stands}
+use Rattle.serve_board.proofs.{Standing.{event_told, reading_told}, PeriodStates.{steps_there, stands_more}}
 use Rattle.serve_board.proofs.Told.{told_may}
 
 -- what is told is what was given, as the answer and the state tell

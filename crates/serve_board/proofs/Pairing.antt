@@ -1,16 +1,12 @@
 -- Pairs of passes that have seen nothing, one of each lock.
-use Rattle.std.proofs.Common.{◌≡◌, ◌≢◌, ℕ, zero, suc, ◌+◌, ◌<◌, ◌≤◌, List, [], ◌∷◌, ◌++◌, length, Some}
-use Rattle.std.proofs.Common.{refl, sym, ap, ◌∙◌, arith, length-append}
-use Rattle.std.specs.Prelude.{All, slice_get}
-use Rattle.std.proofs.lemmas.List.Elements.{All-push, All-weaker}
-use Rattle.std.proofs.lemmas.List.Quantifiers.{all_pairs_push}
+use Rattle.std.proofs.Common.{◌≡◌, ◌≢◌, ℕ, zero, suc, ◌+◌, ◌<◌, ◌≤◌, List, [], ◌∷◌, ◌++◌, length, Some, refl, sym, ap}
+use Rattle.std.proofs.{Common.{◌∙◌, arith, length-append}, lemmas.List.Elements.{All-push, All-weaker}}
+use Rattle.std.{proofs.lemmas.List.Quantifiers.all_pairs_push, specs.Prelude.{All, slice_get}}
 use Rattle.descriptor_doc.specs.declared.descriptor.Descriptor.{Descriptor}
 use Rattle.vote_pool.specs.Pools.{Pooled}
 use Rattle.period_lock.specs.Turns.{Lock, Knowledge, AreDealt, newcomer}
-use Rattle.period_terms.specs.declared.entry.Entry.{Entry}
-use Rattle.period_terms.specs.declared.state.State.{State}
-use Rattle.serve_board.specs.Boards.{Locks, Parts, IsAt, IsPair}
-use Rattle.serve_board.specs.Passes.{DifferInNumber}
+use Rattle.period_terms.specs.declared.{entry.Entry.Entry, state.State.State}
+use Rattle.serve_board.specs.{Boards.{Locks, Parts, IsAt, IsPair}, Passes.DifferInNumber}
 
 module _ {A : Type 0} where
   before_last : (xs : List A) (x : A) (k : ℕ) → k < length xs → slice_get (xs ++ x ∷ []) k ≡ slice_get xs k

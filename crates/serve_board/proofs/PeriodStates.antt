@@ -1,17 +1,11 @@
 -- A state under its lock after one more event.
 use Rattle.std.proofs.Common.{◌≡◌, ◌+◌, List, ◌++◌, length, sym, ap, ◌∙◌, subst, option_to_list}
 use Rattle.key_port.specs.Answers.{Rules}
-use Rattle.period_terms.specs.declared.answer.Answer.{Answer}
-use Rattle.period_terms.specs.declared.entry.Entry.{Entry}
-use Rattle.period_terms.specs.declared.event.Event.{Event}
-use Rattle.period_terms.specs.declared.state.State.{State}
-use Rattle.period_terms.specs.Histories.{after, entry_if}
-use Rattle.period_terms.specs.Steps.{step}
-use Rattle.period_laws.specs.Checked.{IsChecked, IsCheckedHistory, anything}
-use Rattle.period_laws.proofs.Leading.{on, front}
+use Rattle.period_terms.specs.declared.{answer.Answer.Answer, entry.Entry.Entry, event.Event.Event, state.State.State}
+use Rattle.period_terms.specs.{Histories.{after, entry_if}, Steps.step}
+use Rattle.period_laws.{specs.Checked.{IsChecked, IsCheckedHistory, anything}, proofs.Leading.{on, front}}
 use Rattle.period_laws.proofs.Verified as verified
-use Rattle.serve_board.specs.Boards.{StepsThere, answer_at}
-use Rattle.serve_board.specs.Turns.{Stands}
+use Rattle.serve_board.specs.{Boards.{StepsThere, answer_at}, Turns.Stands}
 
 module _ (rules : Rules) where
   -- what a value stands for

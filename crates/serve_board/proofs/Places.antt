@@ -1,36 +1,25 @@
 -- The numbers of changes.
 use Rattle.std.proofs.Common.{◌≡◌, ℕ, ◌+◌, ◌==◌, nat_le, Bool, true, false, not, cond, List, [], ◌∷◌, ◌++◌, length}
-use Rattle.std.proofs.Common.{Option, Some, None, bytes_eq}
-use Rattle.std.proofs.Common.{refl, sym, ap, ◌∙◌, subst, arith, option_to_list, length-append}
-use Rattle.std.proofs.lemmas.List.{length-map}
+use Rattle.std.proofs.Common.{Option, Some, None, bytes_eq, refl, sym, ap, ◌∙◌, subst, arith, option_to_list}
+use Rattle.std.proofs.{Common.length-append, lemmas.List.length-map}
 use Rattle.key_port.specs.Answers.{Rules}
 use Rattle.dir_values.specs.Rosters.{has_member}
-use Rattle.vote_terms.specs.Votes.{ReadVote, rank_of}
-use Rattle.vote_terms.specs.Held.{outranks}
+use Rattle.vote_terms.specs.{Votes.{ReadVote, rank_of}, Held.outranks}
 use Rattle.consensus_terms.specs.declared.consensus.Consensus.{Consensus}
-use Rattle.period_lock.specs.Turns.{Lock, Knowledge, entries}
-use Rattle.period_lock.proofs.Entries.{entries-entry_by}
-use Rattle.period_terms.specs.declared.answer.Answer.{Answer}
-use Rattle.period_terms.specs.declared.answer.Answer.TheVariants.{Vote, Moment, Signature, Reading}
-use Rattle.period_terms.specs.declared.answer.Offer.{Offer}
+use Rattle.period_lock.{specs.Turns.{Lock, Knowledge, entries}, proofs.Entries.entries-entry_by}
+use Rattle.period_terms.specs.declared.answer.Answer.{Answer, TheVariants.{Vote, Moment, Signature, Reading}}
+use Rattle.period_terms.specs.declared.{answer.{Offer.Offer, SignIn.SignIn}, entry.Entry.Entry, event.Event.Event}
+use Rattle.period_terms.specs.declared.event.{Event.TheVariants.{Offered, SignedIn}, Via.Via}
+use Rattle.period_terms.specs.declared.{signature.OfferedSignature.OfferedSignature, state.State.State}
+use Rattle.period_terms.specs.{Histories.{IsHistory, after, entry_if}, Offers.{offer, compared_vote, kept_vote}}
+use Rattle.period_terms.specs.{Offers.{is_late, with_vote, most_vote_changes}, SignIns.{sign_in, sign_in_over}}
+use Rattle.period_terms.specs.{SignIns.keep_signature, States.{Outcome, unchanged_outcome, vote_of, digest_of, has_key}}
+use Rattle.period_terms.specs.{States.{has_line, lines_of, is_ended}, Steps.step}
 use Rattle.period_terms.specs.declared.answer.Offer.TheVariants as offers
-use Rattle.period_terms.specs.declared.answer.SignIn.{SignIn}
 use Rattle.period_terms.specs.declared.answer.SignIn.TheVariants as signs
-use Rattle.period_terms.specs.declared.entry.Entry.{Entry}
-use Rattle.period_terms.specs.declared.event.Event.{Event}
-use Rattle.period_terms.specs.declared.event.Event.TheVariants.{Offered, SignedIn}
-use Rattle.period_terms.specs.declared.event.Via.{Via}
-use Rattle.period_terms.specs.declared.signature.OfferedSignature.{OfferedSignature}
-use Rattle.period_terms.specs.declared.state.State.{State}
-use Rattle.period_terms.specs.Histories.{IsHistory, after, entry_if}
-use Rattle.period_terms.specs.Offers.{offer, compared_vote, kept_vote, is_late, with_vote, most_vote_changes}
-use Rattle.period_terms.specs.SignIns.{sign_in, sign_in_over, keep_signature}
-use Rattle.period_terms.specs.States.{Outcome, unchanged_outcome, vote_of, digest_of, has_key, has_line, lines_of, is_ended}
-use Rattle.period_terms.specs.Steps.{step}
 use Rattle.period_laws.specs.Checked.{IsCheckedHistory}
 use Rattle.period_laws.proofs.Leading as leading
-use Rattle.serve_board.specs.Boards.{IsNumber, answer_at, position_of_offer, position_of_sign_in}
-use Rattle.serve_board.specs.Turns.{TakesEvent}
+use Rattle.serve_board.specs.{Boards.{IsNumber, answer_at, position_of_offer, position_of_sign_in}, Turns.TakesEvent}
 
 -- the number is the next after a front
 abbrev pub IsNext : ℕ → Option ℕ → Type 0

@@ -1,13 +1,10 @@
 -- A pool under its lock after one more descriptor.
-use Rattle.std.proofs.Common.{◌≡◌, ◌+◌, Bool, true, false, cond, List, [], ◌∷◌, ◌++◌, length, Some, None, refl, sym}
-use Rattle.std.proofs.Common.{ap, ◌∙◌, subst, option_to_list, arith}
+use Rattle.std.proofs.Common.{◌≡◌, ◌+◌, Bool, true, false, cond, List, [], ◌∷◌, ◌++◌, length, Some, None, refl, sym, ap}
+use Rattle.std.proofs.Common.{◌∙◌, subst, option_to_list, arith}
 use Rattle.key_port.specs.Answers.{Rules}
-use Rattle.descriptor_doc.specs.Checks.{IsChecked}
-use Rattle.descriptor_doc.specs.declared.descriptor.Descriptor.{Descriptor}
-use Rattle.vote_pool.specs.declared.answers.Keep.{Keep}
-use Rattle.vote_pool.specs.Pools.{Pooled, answer_to, is_change, pool_after}
-use Rattle.serve_board.specs.Stocks.{stock_after, AreKept, kept_if}
-use Rattle.serve_board.specs.Turns.{Stands, AnswersThere}
+use Rattle.descriptor_doc.specs.{Checks.IsChecked, declared.descriptor.Descriptor.Descriptor}
+use Rattle.vote_pool.specs.{declared.answers.Keep.Keep, Pools.{Pooled, answer_to, is_change, pool_after}}
+use Rattle.serve_board.specs.{Stocks.{stock_after, AreKept, kept_if}, Turns.{Stands, AnswersThere}}
 
 module _ (rules : Rules) where
   -- what a value stands for

@@ -1,28 +1,23 @@
 -- What is told of a signing may be given where what was given may be.
-use Rattle.std.proofs.Common.{◌≡◌, ℕ, Bool, true, false, cond, not, ◌||◌, nat_lt, List, [], ◌∷◌, ◌++◌, length, filter, find}
-use Rattle.std.proofs.Common.{Option, Some, None, refl, sym, ap, ◌∙◌, subst}
+use Rattle.std.proofs.Common.{◌≡◌, ℕ, Bool, true, false, cond, not, ◌||◌, nat_lt, List, [], ◌∷◌, ◌++◌, length, filter}
+use Rattle.std.proofs.Common.{find, Option, Some, None, refl, sym, ap, ◌∙◌, subst}
 use Rattle.count_terms.specs.Counts.{over}
 use Rattle.vote_schedule.specs.Moments as schedule_moments
 use Rattle.dir_values.specs.Digests.{same_identity}
 use Rattle.key_port.specs.Answers.{Relation, Rules}
 use Rattle.vote_terms.specs.Votes.{ReadVote}
-use Rattle.consensus_terms.specs.declared.consensus.Consensus.{Consensus}
-use Rattle.consensus_terms.specs.declared.flavour.Flavour.TheVariants.{Ns, Microdesc}
+use Rattle.consensus_terms.specs.declared.{consensus.Consensus.Consensus, flavour.Flavour.TheVariants.{Ns, Microdesc}}
 use Rattle.consensus_terms.specs.declared.signature.SignatureLine.{SignatureLine}
-use Rattle.period_terms.specs.declared.answer.Advance.{Advance}
-use Rattle.period_terms.specs.declared.answer.Advance.TheVariants as moments
-use Rattle.period_terms.specs.declared.event.Signing.{Signing}
-use Rattle.period_terms.specs.declared.event.Signing.TheVariants.{Given, SignerFails, VerifierFails, Refused}
-use Rattle.period_terms.specs.declared.stage.Stage.{Stage}
-use Rattle.period_terms.specs.declared.stage.Stage.TheVariants.{Voting, Frozen, Computed, Signed, Ended}
-use Rattle.period_terms.specs.declared.state.State.{State}
-use Rattle.period_terms.specs.Schedules.{next_valid_after}
-use Rattle.period_terms.specs.States.{Outcome, unchanged_outcome, vote_of, consensus_of, is_signed, with_signature}
+use Rattle.period_terms.specs.declared.{answer.Advance.Advance, event.Signing.{Signing, TheVariants.Given}}
+use Rattle.period_terms.specs.declared.event.Signing.TheVariants.{SignerFails, VerifierFails, Refused}
+use Rattle.period_terms.specs.declared.stage.Stage.{Stage, TheVariants.{Voting, Frozen, Computed, Signed, Ended}}
+use Rattle.period_terms.specs.{declared.state.State.State, Schedules.next_valid_after, States.Outcome}
+use Rattle.period_terms.specs.States.{unchanged_outcome, vote_of, consensus_of, is_signed, with_signature}
 use Rattle.period_terms.specs.Advances.{advance, advance_at, with_consensus, sign_or_pass, own_line, from, freeze}
-use Rattle.period_terms.specs.Advances.{compute, give_up, publish, publish_these, miss, begin}
-use Rattle.period_terms.specs.Advances.{signature_in, given_told, own_signatures, sign_with, MayGiveIf, MayGive}
-use Rattle.period_terms.specs.Advances.{MayGiveAt}
+use Rattle.period_terms.specs.Advances.{compute, give_up, publish, publish_these, miss, begin, signature_in, given_told}
+use Rattle.period_terms.specs.Advances.{own_signatures, sign_with, MayGiveIf, MayGive, MayGiveAt}
 use Rattle.period_terms.proofs.Placing.{itself}
+use Rattle.period_terms.specs.declared.answer.Advance.TheVariants as moments
 
 -- ---- the signature that was put is the one that is found
 

@@ -2,18 +2,13 @@
 use Rattle.std.proofs.Common.{◌≡◌, refl, sym, subst}
 use Rattle.key_port.specs.Answers.{Rules}
 use Rattle.descriptor_doc.specs.declared.descriptor.Descriptor.{Descriptor}
-use Rattle.vote_pool.specs.declared.answers.Keep.{Keep}
-use Rattle.vote_pool.specs.Pools.{Pooled, answer_to}
+use Rattle.vote_pool.specs.{declared.answers.Keep.Keep, Pools.{Pooled, answer_to}}
 use Rattle.period_lock.specs.Turns.{IsOf, Knowledge}
-use Rattle.period_terms.specs.declared.answer.Answer.{Answer}
-use Rattle.period_terms.specs.declared.entry.Entry.{Entry}
-use Rattle.period_terms.specs.declared.event.Event.{Event}
-use Rattle.period_terms.specs.declared.state.State.{State}
+use Rattle.period_terms.specs.declared.{answer.Answer.Answer, entry.Entry.Entry, event.Event.Event, state.State.State}
 use Rattle.period_terms.specs.Histories.{after, entry_if}
 use Rattle.period_laws.specs.Checked.{IsCheckedHistory}
-use Rattle.serve_board.specs.Boards.{Locks, Parts, IsAt, Makes, Sees, Stores, Looks, answer_at}
-use Rattle.serve_board.specs.Stocks.{stock_after, AreKept, kept_if}
-use Rattle.serve_board.specs.Turns.{TakesEvent, TakesReading}
+use Rattle.serve_board.specs.{Boards.{Locks, Parts, IsAt, Makes, Sees, Stores, Looks, answer_at}, Stocks.stock_after}
+use Rattle.serve_board.specs.{Stocks.{AreKept, kept_if}, Turns.{TakesEvent, TakesReading}}
 
 module _ (inside board : Locks) (parts before : Parts) (b : inside ≡ board) (p : parts ≡ before) where
   pub seen_as : (F : Locks → Parts → Type 0) → F inside parts → F board before

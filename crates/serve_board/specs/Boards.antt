@@ -3,27 +3,17 @@ use Rattle.std.specs.Prelude.{◌≡◌, ◌+◌, ℕ, List, map, length, Option
 use Rattle.dir_bytes.specs.declared.fault.Memory.{Memory}
 use Rattle.key_port.specs.Answers.{Relation, Rules}
 use Rattle.descriptor_doc.specs.declared.descriptor.Descriptor.{Descriptor}
-use Rattle.vote_pool.specs.declared.answers.Keep.{Keep}
-use Rattle.vote_pool.specs.Pools.{Pooled, answer_to}
+use Rattle.vote_pool.specs.{declared.answers.Keep.Keep, Pools.{Pooled, answer_to}}
 use Rattle.period_lock.specs.Turns.{Lock, Knowledge, IsOf, EndsIn, newcomer, entries}
-use Rattle.period_terms.specs.declared.answer.Advance.{Advance}
-use Rattle.period_terms.specs.declared.answer.Answer.{Answer}
-use Rattle.period_terms.specs.declared.answer.Answer.TheVariants.{Moment}
-use Rattle.period_terms.specs.declared.answer.Offer.{Offer}
+use Rattle.period_terms.specs.declared.answer.{Advance.Advance, Answer.{Answer, TheVariants.Moment}, Offer.Offer}
+use Rattle.period_terms.specs.declared.{answer.SignIn.SignIn, entry.Entry.Entry, event.Event.Event}
+use Rattle.period_terms.specs.declared.{event.{Event.TheVariants.Advanced, Signing.Signing}, state.State.State}
+use Rattle.period_terms.specs.{Advances.MayGiveAt, Histories.{after, entry_if}, Steps.step}
 use Rattle.period_terms.specs.declared.answer.Offer.TheVariants as offers
-use Rattle.period_terms.specs.declared.answer.SignIn.{SignIn}
 use Rattle.period_terms.specs.declared.answer.SignIn.TheVariants as signs
-use Rattle.period_terms.specs.declared.entry.Entry.{Entry}
-use Rattle.period_terms.specs.declared.event.Event.{Event}
-use Rattle.period_terms.specs.declared.event.Event.TheVariants.{Advanced}
-use Rattle.period_terms.specs.declared.event.Signing.{Signing}
-use Rattle.period_terms.specs.declared.state.State.{State}
-use Rattle.period_terms.specs.Advances.{MayGiveAt}
-use Rattle.period_terms.specs.Histories.{after, entry_if}
-use Rattle.period_terms.specs.Steps.{step}
 use Rattle.period_laws.specs.Checked.{IsCheckedHistory}
-use Rattle.serve_board.specs.Stocks.{stock_after, AreKept, kept_if}
-use Rattle.serve_board.specs.Turns.{Stands, TakesEvent, TakesReading, AnswersThere}
+use Rattle.serve_board.specs.{Stocks.{stock_after, AreKept, kept_if}, Turns.{Stands, TakesEvent, TakesReading}}
+use Rattle.serve_board.specs.Turns.{AnswersThere}
 
 -- a board: its two locks
 pub record Locks : Type 0 where

@@ -1,28 +1,18 @@
 -- What the private events of a board say.
 use Rattle.std.specs.Prelude.{◌≡◌, ◌≤◌, ℕ, List, Option, Some, None, Result, Ok, Err}
-use Rattle.dir_bytes.specs.Causes.{Rose}
-use Rattle.dir_bytes.specs.declared.fault.Memory.{Memory}
+use Rattle.dir_bytes.specs.{Causes.Rose, declared.fault.Memory.Memory}
 use Rattle.key_port.specs.Answers.{Relation, Rules}
 use Rattle.vote_terms.specs.Votes.{ReadVote}
 use Rattle.descriptor_doc.specs.declared.descriptor.Descriptor.{Descriptor}
-use Rattle.vote_pool.specs.declared.answers.Keep.{Keep}
-use Rattle.vote_pool.specs.Pools.{Pooled, answer_to}
-use Rattle.period_terms.specs.declared.answer.Advance.{Advance}
+use Rattle.vote_pool.specs.{declared.answers.Keep.Keep, Pools.{Pooled, answer_to}}
+use Rattle.period_terms.specs.declared.answer.{Advance.Advance, Answer.TheVariants.{Vote, Moment, Signature}}
+use Rattle.period_terms.specs.declared.{answer.{Offer.Offer, SignIn.SignIn}, entry.Entry.Entry}
+use Rattle.period_terms.specs.declared.event.{Event.TheVariants.{Offered, Advanced, SignedIn}, Via.Via}
+use Rattle.period_terms.specs.declared.{signature.OfferedSignature.OfferedSignature, state.State.State}
+use Rattle.period_terms.specs.{Advances.{MayGiveAt, given_told}, Histories.{after, entry_if}}
 use Rattle.period_terms.specs.declared.answer.Advance.TheVariants as moments
-use Rattle.period_terms.specs.declared.answer.Answer.TheVariants.{Vote, Moment, Signature}
-use Rattle.period_terms.specs.declared.answer.Offer.{Offer}
-use Rattle.period_terms.specs.declared.answer.SignIn.{SignIn}
-use Rattle.period_terms.specs.declared.entry.Entry.{Entry}
-use Rattle.period_terms.specs.declared.event.Event.TheVariants.{Offered, Advanced, SignedIn}
-use Rattle.period_terms.specs.declared.event.Via.{Via}
-use Rattle.period_terms.specs.declared.signature.OfferedSignature.{OfferedSignature}
-use Rattle.period_terms.specs.declared.state.State.{State}
-use Rattle.period_terms.specs.Advances.{MayGiveAt, given_told}
-use Rattle.period_terms.specs.Histories.{after, entry_if}
 use Rattle.period_laws.specs.Checked.{IsCheckedHistory}
-use Rattle.serve_board.specs.Boards.{StepsThere}
-use Rattle.serve_board.specs.Stocks.{stock_after, AreKept, kept_if}
-use Rattle.serve_board.specs.Turns.{AnswersThere}
+use Rattle.serve_board.specs.{Boards.StepsThere, Stocks.{stock_after, AreKept, kept_if}, Turns.AnswersThere}
 
 -- a reply that is there, and is that to an offered vote
 abbrev pub OffersThere : Rules → ReadVote → Via → ℕ → State → List Entry → Option Offer → Type 0

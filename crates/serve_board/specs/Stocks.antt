@@ -1,10 +1,8 @@
 -- What a pool becomes by the descriptors that are kept one by one.
 use Rattle.std.specs.Prelude.{◌≡◌, true, List, [], ◌∷◌, Option, Some, None, if◌then◌else◌}
 use Rattle.key_port.specs.Answers.{Rules}
-use Rattle.descriptor_doc.specs.Checks.{IsChecked}
-use Rattle.descriptor_doc.specs.declared.descriptor.Descriptor.{Descriptor}
-use Rattle.vote_pool.specs.declared.answers.Keep.{Keep}
-use Rattle.vote_pool.specs.Pools.{Pooled, answer_to, is_change, pool_after}
+use Rattle.descriptor_doc.specs.{Checks.IsChecked, declared.descriptor.Descriptor.Descriptor}
+use Rattle.vote_pool.specs.{declared.answers.Keep.Keep, Pools.{Pooled, answer_to, is_change, pool_after}}
 
 -- the pool after descriptors
 abbrev pub stock_after : Pooled → List Descriptor → Pooled

@@ -4,8 +4,8 @@ ghost use Rattle.dir_bytes.specs.Causes.{Rose};
 ghost use Rattle.key_port.specs.Answers.{rules};
 ghost use Rattle.period_terms.specs.declared.answer.Answer.TheVariants as answers;
 ghost use Rattle.period_terms.specs.declared.event.Event.TheVariants as events;
-ghost use Rattle.serve_board.specs.Boards.{Advances, IsAt, IsNew, IsPlace, Looks, Makes, Sees, Stores, position_of_offer, position_of_sign_in};
-ghost use Rattle.serve_board.specs.Passes.{DifferInNumber};
+ghost use Rattle.serve_board.specs.Boards.{Advances, IsAt, IsNew, IsPlace, Looks, Makes, Sees, Stores};
+ghost use Rattle.serve_board.specs.{Boards.{position_of_offer, position_of_sign_in}, Passes.DifferInNumber};
 
 use crate::advancing::AdvancePeriodState;
 use crate::opening::pair;

@@ -1,8 +1,7 @@
 // The first passes of a board: pairs of one pass of each lock.
 ghost use Rattle.std.specs.Prelude.{◌≡◌, ◌≤◌, [], All, length, vec_capacity};
 ghost use Rattle.period_lock.specs.Turns.{AreDealt};
-ghost use Rattle.serve_board.specs.Boards.{IsPair};
-ghost use Rattle.serve_board.specs.Passes.{DifferInNumber};
+ghost use Rattle.serve_board.specs.{Boards.IsPair, Passes.DifferInNumber};
 
 use crate::pass::Pass;
 use crate::period::Period;

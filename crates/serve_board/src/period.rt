@@ -1,10 +1,8 @@
 // A state under a lock.
 ghost use Rattle.std.specs.Prelude.{◌≡◌, ◌+◌, List, length};
 ghost use Rattle.key_port.specs.Answers.{rules};
-ghost use Rattle.period_terms.specs.Histories.{after};
+ghost use Rattle.period_terms.specs.{Histories.after, declared.{entry.Entry.Entry, state.State.State}};
 ghost use Rattle.period_laws.specs.Checked.{IsCheckedHistory};
-ghost use Rattle.period_terms.specs.declared.entry.Entry.{Entry};
-ghost use Rattle.period_terms.specs.declared.state.State.{State};
 ghost use Rattle.serve_board.specs.Turns.{Stands};
 
 use key_port::Verifier;

@@ -3,8 +3,7 @@ ghost use Rattle.std.specs.Prelude.{◌≡◌, None};
 ghost use Rattle.key_port.specs.Answers.{rules};
 ghost use Rattle.period_terms.specs.Histories.{after};
 ghost use Rattle.period_laws.specs.Checked.{IsCheckedHistory};
-ghost use Rattle.serve_board.specs.Stocks.{AreKept, stock_after};
-ghost use Rattle.serve_board.specs.Turns.{FindsThere};
+ghost use Rattle.serve_board.specs.{Stocks.{AreKept, stock_after}, Turns.FindsThere};
 
 use crate::period::Period;
 use crate::reserve::Reserve;

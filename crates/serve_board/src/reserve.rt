@@ -3,9 +3,7 @@ ghost use Rattle.std.specs.Prelude.{◌≡◌, ◌+◌, IfSome, List, length};
 ghost use Rattle.key_port.specs.Answers.{rules};
 ghost use Rattle.descriptor_doc.specs.declared.descriptor.Descriptor.{Descriptor};
 ghost use Rattle.vote_pool.specs.Pools.{Pooled};
-ghost use Rattle.serve_board.specs.Events.{KeepsThere, kept_entry};
-ghost use Rattle.serve_board.specs.Stocks.{AreKept, stock_after};
-ghost use Rattle.serve_board.specs.Turns.{Stands};
+ghost use Rattle.serve_board.specs.{Events.{KeepsThere, kept_entry}, Stocks.{AreKept, stock_after}, Turns.Stands};
 
 use key_port::Verifier;
 use period_lock::{Event, Storied};

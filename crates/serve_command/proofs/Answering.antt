@@ -1,23 +1,15 @@
 -- What is answered, from what was made ready and how it served.
-use Rattle.std.proofs.Common.{◌≡◌, ℕ, List, length, Ok, Err, subst}
-use Rattle.std.specs.Prelude.{Bool, Option}
-use Rattle.key_port.specs.Answers.{Relation, Rules}
-use Rattle.key_port.specs.Signing.{SignerSteps}
+use Rattle.std.{proofs.Common.{◌≡◌, ℕ, List, length, Ok, Err, subst}, specs.Prelude.{Bool, Option}}
+use Rattle.key_port.specs.{Answers.{Relation, Rules}, Signing.SignerSteps}
 use Rattle.count_terms.specs.declared.newest.Newest.{Newest}
-use Rattle.daemon_words.specs.declared.command.Measures.{Measures}
-use Rattle.daemon_words.specs.declared.stop.Stop.{Stop}
+use Rattle.daemon_words.specs.declared.{command.Measures.Measures, stop.Stop.Stop}
 use Rattle.daemon_words.specs.declared.stop.Stop.TheVariants as stop
-use Rattle.serve_command.specs.declared.refusal.ServeRefusal.{ServeRefusal}
-use Rattle.flag_rules.specs.Rules.{list_allows}
-use Rattle.flag_rules.specs.declared.operator.OperatorRule.{OperatorRule}
+use Rattle.serve_command.specs.{declared.refusal.ServeRefusal.ServeRefusal, Private.{IsReady, StopsFor, starting_of}}
+use Rattle.serve_command.specs.{Serving.{IsBoardOf, ServeAnswers}, Starting.RefusesToServe}
+use Rattle.flag_rules.specs.{Rules.list_allows, declared.operator.OperatorRule.OperatorRule}
 use Rattle.station_input.specs.declared.facts.StationFacts.{StationFacts}
 use Rattle.serve_board.specs.Boards.{Locks, Parts}
-use Rattle.serve_work.specs.Serving.{Serves}
-use Rattle.serve_work.specs.Workers.{HasWorked}
-use Rattle.serve_work.specs.declared.serving.Served.{Served}
-use Rattle.serve_command.specs.Private.{IsReady, StopsFor, starting_of}
-use Rattle.serve_command.specs.Serving.{IsBoardOf, ServeAnswers}
-use Rattle.serve_command.specs.Starting.{RefusesToServe}
+use Rattle.serve_work.specs.{Serving.Serves, Workers.HasWorked, declared.serving.Served.Served}
 
 module _ (rules : Rules) (from : Measures) (newest : Newest) (now : ℕ) (bytes : List ℕ) where
   module _ {N C G : Type 0} (gives : Relation) (steps : SignerSteps N) (last : C → ℕ) (faults : G → ℕ)

@@ -4,10 +4,9 @@ use Rattle.std.specs.Prelude.{IfErr, slice_index_or, slice_set}
 use Rattle.dir_bytes.specs.Causes.{Counts, Rose}
 use Rattle.daemon_words.specs.declared.stop.Stop.{Stop}
 use Rattle.daemon_words.specs.declared.stop.Stop.TheVariants as stop
-use Rattle.serve_command.specs.declared.refusal.ServeRefusal.{ServeRefusal}
+use Rattle.serve_command.specs.{declared.refusal.ServeRefusal.ServeRefusal, Serving.{AsksFirst, AsksClock}}
 use Rattle.serve_command.specs.declared.refusal.ServeRefusal.TheVariants as refusal
 use Rattle.serve_work.specs.declared.serving.Served.{Served}
-use Rattle.serve_command.specs.Serving.{AsksFirst, AsksClock}
 
 -- It is the first of them.
 record IsFirst {X : Type 0} (items : List X) (x : X) : Type 0 where

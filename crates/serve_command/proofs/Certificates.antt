@@ -1,15 +1,12 @@
 -- A certificate that holds at a moment fails none of its clauses then.
-use Rattle.std.proofs.Common.{◌≡◌, ℕ, ◌≤◌, ◌<◌, Bool, true, false, refl, sym, ap, ◌∙◌, arith}
+use Rattle.std.proofs.{Common.{◌≡◌, ℕ, ◌≤◌, ◌<◌, Bool, true, false, refl, sym, ap, ◌∙◌, arith}, lemmas.Bool.false≢true}
 use Rattle.std.specs.Prelude.{◌≢◌}
-use Rattle.std.proofs.lemmas.Bool.{false≢true}
 use Rattle.key_port.specs.Answers.{Rules}
-use Rattle.authority_certs.specs.Checks.{Checks, certifies, crosscertifies, names_its_key}
-use Rattle.authority_certs.specs.declared.cert.Cert.{Cert}
+use Rattle.authority_certs.specs.{Checks.{Checks, certifies, crosscertifies, names_its_key}, declared.cert.Cert.Cert}
 use Rattle.authority_certs.specs.declared.checking.CertAnswer.{CertAnswer}
 use Rattle.authority_certs.specs.declared.checking.CertAnswer.TheVariants as answer
 use Rattle.station_commands.specs.Answerable.{HoldsAt}
-use Rattle.serve_command.specs.Starting.{RefusesCertificate}
-use Rattle.serve_command.specs.Told.{cert_refused}
+use Rattle.serve_command.specs.{Starting.RefusesCertificate, Told.cert_refused}
 use Rattle.serve_command.specs.declared.refusal.ServeRefusal.{ServeRefusal}
 use Rattle.serve_command.specs.declared.refusal.ServeRefusal.TheVariants as refusal
 

@@ -8,21 +8,17 @@ use Rattle.daemon_words.specs.declared.command.Measures.{Measures}
 use Rattle.daemon_words.specs.declared.command.Measures.TheVariants as measures
 use Rattle.station_input.specs.declared.facts.StationFacts.{StationFacts}
 use Rattle.vote_maker.specs.Made.{Basis, schedule_in}
-use Rattle.station_commands.specs.Voting.{IsBasisOf}
-use Rattle.station_commands.specs.WithFile.{BeginsWithFile, BeginsWithOldFile, IsFaultyBehind, RefusesFile}
-use Rattle.station_commands.specs.declared.file_refusal.BandwidthRefusal.{BandwidthRefusal}
-use Rattle.station_commands.specs.declared.file_refusal.BandwidthRefusal.TheVariants as bandwidth
+use Rattle.station_commands.specs.{Voting.IsBasisOf, WithFile.{BeginsWithFile, BeginsWithOldFile, IsFaultyBehind}}
+use Rattle.station_commands.specs.{WithFile.RefusesFile, declared.file_refusal.BandwidthRefusal.BandwidthRefusal}
 use Rattle.station_commands.proofs.FilesNotRefused.{no_fault, not_faulty_behind, one_front, one_start}
-use Rattle.station_commands.proofs.NotRefused.{has_period, has_pool, in_order, not_faulty}
-use Rattle.station_commands.proofs.OneBasis.{one_basis}
-use Rattle.serve_command.specs.Answerable.{CanServe, CanStart, SuchAreNotRefused}
-use Rattle.serve_command.specs.Starting.{IsFaultyIn, RefusesCertificate, RefusesStation, RefusesToServe, StandsBehind}
-use Rattle.serve_command.specs.Starting.{StandsIn}
-use Rattle.serve_command.specs.Told.{by_pool}
-use Rattle.serve_command.specs.declared.refusal.ServeRefusal.{ServeRefusal}
+use Rattle.station_commands.proofs.{NotRefused.{has_period, has_pool, in_order, not_faulty}, OneBasis.one_basis}
+use Rattle.station_commands.specs.declared.file_refusal.BandwidthRefusal.TheVariants as bandwidth
+use Rattle.serve_command.specs.{Answerable.{CanServe, CanStart, SuchAreNotRefused}, Starting.IsFaultyIn}
+use Rattle.serve_command.specs.Starting.{RefusesCertificate, RefusesStation, RefusesToServe, StandsBehind, StandsIn}
+use Rattle.serve_command.specs.{Told.by_pool, declared.refusal.ServeRefusal.ServeRefusal}
+use Rattle.serve_command.proofs.{Certificates.of_certificate, OneStation.{faulty_alike, old_alike, one_given}}
+use Rattle.serve_command.proofs.OneStation.{one_place, refused_alike}
 use Rattle.serve_command.specs.declared.refusal.ServeRefusal.TheVariants as refusal
-use Rattle.serve_command.proofs.Certificates.{of_certificate}
-use Rattle.serve_command.proofs.OneStation.{faulty_alike, old_alike, one_given, one_place, refused_alike}
 
 -- ---- the station
 

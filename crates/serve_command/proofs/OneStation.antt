@@ -1,19 +1,16 @@
 -- An input gives one station; and what is refused of one thing is refused of the same.
 use Rattle.std.proofs.Common.{◌≡◌, ℕ, List, Result, Ok, sym, ap, subst, ◌∙◌}
 use Rattle.key_port.specs.Answers.{Rules}
-use Rattle.frame_terms.specs.declared.fault.ReadRefusal.{ReadRefusal}
-use Rattle.bandwidth_file.specs.Ages.{IsOld}
-use Rattle.bandwidth_file.specs.declared.file.BandFile.{BandFile}
+use Rattle.frame_terms.specs.declared.fault.{ReadRefusal.ReadRefusal, FrameFault.FrameFault}
+use Rattle.bandwidth_file.specs.{Ages.IsOld, declared.file.BandFile.BandFile}
 use Rattle.count_terms.specs.declared.newest.Newest.{Newest}
 use Rattle.daemon_words.specs.declared.command.Measures.{Measures}
 use Rattle.daemon_words.specs.declared.command.Measures.TheVariants as measures
-use Rattle.frame_terms.specs.declared.fault.FrameFault.{FrameFault}
-use Rattle.serve_command.specs.declared.refusal.ServeRefusal.{ServeRefusal}
+use Rattle.serve_command.specs.{declared.refusal.ServeRefusal.ServeRefusal, Starting.{RefusesStation, StandsBehind}}
+use Rattle.serve_command.specs.Starting.{StandsIn}
 use Rattle.station_input.specs.declared.facts.StationFacts.{StationFacts}
-use Rattle.station_commands.specs.WithFile.{IsFaultyBehind, station_behind}
-use Rattle.station_commands.proofs.FilesNotRefused.{one_front, one_start}
-use Rattle.station_commands.proofs.OneBasis.{given_in, one_station, one_used, used_in}
-use Rattle.serve_command.specs.Starting.{RefusesStation, StandsBehind, StandsIn}
+use Rattle.station_commands.{specs.WithFile.{IsFaultyBehind, station_behind}, proofs.FilesNotRefused.one_front}
+use Rattle.station_commands.proofs.{FilesNotRefused.one_start, OneBasis.{given_in, one_station, one_used, used_in}}
 
 -- ---- what holds of one thing holds of the same
 

@@ -7,22 +7,17 @@ use Rattle.frame_terms.specs.declared.fault.FrameFault.{FrameFault}
 use Rattle.daemon_words.specs.declared.stop.Stop.{Stop}
 use Rattle.daemon_words.specs.declared.stop.Stop.TheVariants as stop
 use Rattle.station_input.specs.declared.facts.StationFacts.{StationFacts}
-use Rattle.station_laws.specs.Once.{RelaysAreNamedOnce}
-use Rattle.station_commands.specs.Voting.{GivesStation}
-use Rattle.station_commands.specs.Private.{GivesFile, GivesStationBehind}
+use Rattle.station_commands.specs.{Voting.GivesStation, Private.{GivesFile, GivesStationBehind}}
 use Rattle.station_commands.specs.WithFile.{BeginsWithFile, IsFaultyBehind, RefusesFile}
 use Rattle.station_commands.specs.declared.file_refusal.BandwidthRefusal.{BandwidthRefusal}
-use Rattle.serve_command.specs.Private.{IsReadIn, StopsFor}
-use Rattle.serve_command.specs.Starting.{IsFaultyIn}
-use Rattle.serve_command.specs.Told.{of_fault, of_file}
+use Rattle.serve_command.specs.{Private.{IsReadIn, StopsFor}, Starting.IsFaultyIn, Told.{of_fault, of_file}}
 
 module _ (newest : Newest) (now : ℕ) (bytes : List ℕ) where
   -- ---- without a file
 
-  pub read_there : (given : StationFacts) (used : ℕ) → RelaysAreNamedOnce → GivesStation newest bytes (Ok (given, used))
+  pub read_there : (given : StationFacts) (used : ℕ) → GivesStation newest bytes (Ok (given, used))
       → IsReadIn measures.Station newest now bytes given used
-  read_there given used once is =
-      record { stands = is.0; within = is.1; apart = (once newest bytes given used is.0).rules }
+  read_there given used is = record { stands = is.0; within = is.1 }
 
   pub not_there : (why : Stop FrameFault) → GivesStation newest bytes (Err why)
       → StopsFor (IsFaultyIn measures.Station newest now bytes) (of_fault why)
@@ -54,7 +49,6 @@ module _ (newest : Newest) (now : ℕ) (bytes : List ℕ) where
         record {
           stands = record { file = front.file; start = front.used; begins = begun; stands = there.0 };
           within = there.1;
-          apart = there.2;
         }
 
     pub faulty_behind : (why : Stop FrameFault) → GivesStationBehind newest front.file front.used slice (Err why)

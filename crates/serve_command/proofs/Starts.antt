@@ -1,28 +1,22 @@
 -- What an authority starts with, call by call.
-use Rattle.std.proofs.Common.{◌≡◌, ℕ, List, length, Some, None, Ok, refl, sym, subst, ◌∙◌, arith}
-use Rattle.std.specs.Prelude.{◌≢◌, All}
-use Rattle.dir_values.specs.declared.digest.Fingerprint.{Fingerprint}
-use Rattle.dir_values.specs.Rosters.{IsRoster}
+use Rattle.std.{proofs.Common.{◌≡◌, ℕ, List, length, Some, None, Ok, refl, sym, subst, ◌∙◌, arith}, specs.Prelude.◌≢◌}
+use Rattle.std.specs.Prelude.{All}
+use Rattle.dir_values.specs.{declared.digest.Fingerprint.Fingerprint, Rosters.IsRoster}
 use Rattle.key_port.specs.Answers.{Rules}
 use Rattle.authority_certs.specs.Checks.{IsCertified}
 use Rattle.count_terms.specs.declared.newest.Newest.{Newest}
 use Rattle.daemon_words.specs.declared.command.Measures.{Measures}
-use Rattle.flag_rules.specs.Rules.{RuleAlike}
-use Rattle.flag_rules.specs.declared.operator.OperatorRule.{OperatorRule}
+use Rattle.flag_rules.specs.{Rules.RuleAlike, declared.operator.OperatorRule.OperatorRule}
 use Rattle.station_input.specs.declared.facts.StationFacts.{StationFacts}
 use Rattle.vote_pool.specs.Pools.{Pooled}
-use Rattle.vote_schedule.specs.Schedules.{IsSchedule, Schedule}
+use Rattle.vote_schedule.specs.{Schedules.{IsSchedule, Schedule}, Moments.AnswersNext}
 use Rattle.vote_maker.specs.Made.{basis, schedule_in}
-use Rattle.period_terms.specs.Histories.{IsStart}
-use Rattle.period_terms.specs.Schedules.{next_valid_after}
-use Rattle.period_terms.specs.declared.state.State.{State}
-use Rattle.period_core.specs.Starting.{Starts}
+use Rattle.period_terms.specs.{Histories.IsStart, Schedules.next_valid_after, declared.state.State.State}
 use Rattle.period_terms.proofs.NextPeriods.{answers_one, next_is_next}
+use Rattle.period_core.specs.Starting.{Starts}
 use Rattle.serve_board.specs.Boards.{IsAt, IsNew, Locks, Parts}
-use Rattle.vote_schedule.specs.Moments.{AnswersNext}
 use Rattle.station_commands.specs.Voting.{HasPool}
-use Rattle.serve_command.specs.Private.{CanBeginBy, IsOpened, IsReadIn, IsReady}
-use Rattle.serve_command.specs.Starting.{CanBegin, IsStartOf}
+use Rattle.serve_command.specs.{Private.{CanBeginBy, IsOpened, IsReadIn, IsReady}, Starting.{CanBegin, IsStartOf}}
 
 -- the next period can begin
 pub period_ahead : (rules : Rules) (now : ℕ) (given : StationFacts) (used : ℕ) (bytes : List ℕ) (schedule : Schedule)

@@ -2,22 +2,17 @@
 use Rattle.std.proofs.Common.{◌≡◌, ℕ, List, None, Err, refl, inl, inr}
 use Rattle.key_port.specs.Answers.{Rules}
 use Rattle.count_terms.specs.declared.newest.Newest.{Newest}
-use Rattle.daemon_words.specs.declared.command.Measures.{Measures}
-use Rattle.daemon_words.specs.declared.stop.Stop.{Stop}
+use Rattle.daemon_words.specs.declared.{command.Measures.Measures, stop.Stop.Stop}
 use Rattle.daemon_words.specs.declared.stop.Stop.TheVariants as stop
 use Rattle.station_input.specs.declared.facts.StationFacts.{StationFacts}
 use Rattle.vote_pool.specs.Pools.{Pooled}
 use Rattle.vote_schedule.specs.Moments.{AnswersNext}
 use Rattle.vote_maker.specs.Made.{Basis, schedule_in}
-use Rattle.station_commands.specs.Descriptors.{GivesPool}
-use Rattle.station_commands.specs.Order.{GivesSchedule, IsInOrder}
-use Rattle.station_commands.specs.Voting.{HasPool, IsBasisOf}
-use Rattle.station_commands.specs.declared.refusal.OrderWord.{OrderWord}
-use Rattle.station_commands.specs.declared.refusal.PoolRefusal.{PoolRefusal}
+use Rattle.station_commands.specs.{Descriptors.GivesPool, Order.{GivesSchedule, IsInOrder}, Voting.{HasPool, IsBasisOf}}
+use Rattle.station_commands.specs.declared.refusal.{OrderWord.OrderWord, PoolRefusal.PoolRefusal}
 use Rattle.station_commands.specs.declared.refusal.PoolRefusal.TheVariants as pools
-use Rattle.serve_command.specs.Private.{StopsFor}
-use Rattle.serve_command.specs.Starting.{IsFaultyIn, RefusesCertificate, RefusesStation, RefusesToServe, StandsIn}
-use Rattle.serve_command.specs.Told.{by_end, of_order, of_pool}
+use Rattle.serve_command.specs.{Private.StopsFor, Starting.{IsFaultyIn, RefusesCertificate, RefusesStation}}
+use Rattle.serve_command.specs.{Starting.{RefusesToServe, StandsIn}, Told.{by_end, of_order, of_pool}}
 use Rattle.serve_command.specs.declared.refusal.ServeRefusal.{ServeRefusal}
 use Rattle.serve_command.specs.declared.refusal.ServeRefusal.TheVariants as refusal
 

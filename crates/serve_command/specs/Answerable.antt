@@ -3,13 +3,11 @@ use Rattle.std.specs.Prelude.{◌≡◌, ℕ, List, All}
 use Rattle.key_port.specs.Answers.{Rules}
 use Rattle.count_terms.specs.declared.newest.Newest.{Newest}
 use Rattle.daemon_words.specs.declared.command.Measures.{Measures}
-use Rattle.serve_command.specs.declared.refusal.ServeRefusal.{ServeRefusal}
+use Rattle.serve_command.specs.{declared.refusal.ServeRefusal.ServeRefusal, Starting.{RefusesToServe, StandsIn}}
 use Rattle.serve_command.specs.declared.refusal.ServeRefusal.TheVariants as refusal
 use Rattle.station_input.specs.declared.facts.StationFacts.{StationFacts}
 use Rattle.vote_maker.specs.Made.{Basis}
-use Rattle.station_commands.specs.Voting.{IsBasisOf}
-use Rattle.station_commands.specs.Answerable.{HoldsAt, IsNotRefused}
-use Rattle.serve_command.specs.Starting.{RefusesToServe, StandsIn}
+use Rattle.station_commands.specs.{Voting.IsBasisOf, Answerable.{HoldsAt, IsNotRefused}}
 
 -- A station that is given this can start an authority at a moment, with the descriptors that stand in the input from
 -- a place on: it has a basis, no signature of its descriptors or of the own certificate may be refused, and that

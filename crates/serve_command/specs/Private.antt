@@ -1,33 +1,29 @@
 -- What the private functions of this crate say.
 use Rattle.std.specs.Prelude.{◌≡◌, ◌≤◌, ℕ, List, All, length}
 use Rattle.key_port.specs.Answers.{Rules}
-use Rattle.flag_rules.specs.Rules.{AreApart, RuleAlike}
-use Rattle.flag_rules.specs.declared.operator.OperatorRule.{OperatorRule}
+use Rattle.flag_rules.specs.{Rules.RuleAlike, declared.operator.OperatorRule.OperatorRule}
 use Rattle.count_terms.specs.declared.newest.Newest.{Newest}
-use Rattle.daemon_words.specs.declared.command.Measures.{Measures}
-use Rattle.daemon_words.specs.declared.stop.Stop.{Stop}
+use Rattle.daemon_words.specs.declared.{command.Measures.Measures, stop.Stop.Stop}
 use Rattle.daemon_words.specs.declared.stop.Stop.TheVariants as stop
-use Rattle.serve_command.specs.declared.refusal.ServeRefusal.{ServeRefusal}
+use Rattle.serve_command.specs.{declared.refusal.ServeRefusal.ServeRefusal, Serving.IsBoardOf, Starting.CanBegin}
+use Rattle.serve_command.specs.Starting.{IsStartOf, StandsIn, Starting, StartsAs}
 use Rattle.station_input.specs.declared.facts.StationFacts.{StationFacts}
 use Rattle.vote_pool.specs.Pools.{Pooled}
 use Rattle.vote_schedule.specs.Schedules.{IsSchedule, Schedule}
 use Rattle.vote_maker.specs.Made.{schedule_in}
 use Rattle.period_terms.specs.Histories.{IsStart}
 use Rattle.serve_board.specs.Boards.{IsAt, IsNew, Locks, Parts}
-use Rattle.serve_command.specs.Serving.{IsBoardOf}
-use Rattle.serve_command.specs.Starting.{CanBegin, IsStartOf, StandsIn, Starting, StartsAs}
 
 -- a call stopped for a reason of this kind, or there was no memory
 abbrev pub StopsFor : (ServeRefusal → Type 0) → Stop ServeRefusal → Type 0
 StopsFor Refuses stop.Memory = Unit {0}
 StopsFor Refuses (stop.Refused why) = Refuses why
 
--- What was read is what a station is given, and stands within the input; no two of its rules are of one relay.
+-- What was read is what a station is given, and stands within the input.
 pub record IsReadIn (from : Measures) (newest : Newest) (now : ℕ) (bytes : List ℕ) (given : StationFacts)
     (used : ℕ) : Type 0 where
   pub stands : StandsIn from newest now bytes given used
   pub within : used ≤ length bytes
-  pub apart : AreApart given.rules
 
 -- An authority can begin with this pool by this schedule.
 pub record CanBeginBy (rules : Rules) (now : ℕ) (given : StationFacts) (used : ℕ) (bytes : List ℕ) (schedule : Schedule)

@@ -1,22 +1,17 @@
 -- What `serve` answers to an input, and what it asks of what stands outside.
 use Rattle.std.specs.Prelude.{◌≡◌, ◌<◌, ◌≤◌, ℕ, Bool, List, ◌∷◌, All, length, Option, Result, Ok, Err, IfErr}
 use Rattle.dir_bytes.specs.Causes.{Counts, Rose}
-use Rattle.key_port.specs.Answers.{Relation, Rules}
-use Rattle.key_port.specs.Signing.{SignerSteps}
+use Rattle.key_port.specs.{Answers.{Relation, Rules}, Signing.SignerSteps}
 use Rattle.count_terms.specs.declared.newest.Newest.{Newest}
-use Rattle.daemon_words.specs.declared.command.Measures.{Measures}
-use Rattle.daemon_words.specs.declared.stop.Stop.{Stop}
+use Rattle.daemon_words.specs.declared.{command.Measures.Measures, stop.Stop.Stop}
 use Rattle.daemon_words.specs.declared.stop.Stop.TheVariants as stop
-use Rattle.serve_command.specs.declared.refusal.ServeRefusal.{ServeRefusal}
+use Rattle.serve_command.specs.{declared.refusal.ServeRefusal.ServeRefusal, Starting.{RefusesToServe, Starting}}
+use Rattle.serve_command.specs.Starting.{StartsAs}
 use Rattle.serve_command.specs.declared.refusal.ServeRefusal.TheVariants as refusal
-use Rattle.flag_rules.specs.Rules.{RuleAlike, list_allows}
-use Rattle.flag_rules.specs.declared.operator.OperatorRule.{OperatorRule}
+use Rattle.flag_rules.specs.{Rules.{RuleAlike, list_allows}, declared.operator.OperatorRule.OperatorRule}
 use Rattle.serve_board.specs.Boards.{IsNew, Locks, Parts}
-use Rattle.serve_work.specs.Serving.{Serves}
-use Rattle.serve_work.specs.Workers.{HasWorked}
-use Rattle.serve_work.specs.declared.outside.Outside.{Outside}
+use Rattle.serve_work.specs.{Serving.Serves, Workers.HasWorked, declared.outside.Outside.Outside}
 use Rattle.serve_work.specs.declared.serving.Served.{Served}
-use Rattle.serve_command.specs.Starting.{RefusesToServe, Starting, StartsAs}
 
 -- Workers stand outside, at most 16: as many gates, clocks and verifiers.
 pub record HasWorkers {S K E C V N G L : Type 0} (outside : Outside S K E C V N G L) : Type 0 where

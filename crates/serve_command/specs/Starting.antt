@@ -2,8 +2,7 @@
 use Rattle.std.specs.Prelude.{◌≡◌, ◌≢◌, ◌⊎◌, ℕ, List, None, Ok, Err}
 use Rattle.dir_values.specs.declared.digest.Fingerprint.{Fingerprint}
 use Rattle.key_port.specs.Answers.{Rules}
-use Rattle.authority_certs.specs.Checks.{Checks, IsCertified}
-use Rattle.authority_certs.specs.declared.cert.Cert.{Cert}
+use Rattle.authority_certs.specs.{Checks.{Checks, IsCertified}, declared.cert.Cert.Cert}
 use Rattle.authority_certs.specs.declared.checking.CertAnswer.{CertAnswer}
 use Rattle.authority_certs.specs.declared.checking.CertAnswer.TheVariants as answer
 use Rattle.bandwidth_file.specs.declared.file.BandFile.{BandFile}
@@ -12,21 +11,17 @@ use Rattle.daemon_words.specs.declared.command.Measures.{Measures}
 use Rattle.daemon_words.specs.declared.command.Measures.TheVariants as measures
 use Rattle.frame_terms.specs.declared.fault.FrameFault.{FrameFault}
 use Rattle.frame_terms.specs.declared.fault.ReadRefusal.TheVariants as read
-use Rattle.station_input.specs.Reading.{station_of}
-use Rattle.station_input.specs.declared.facts.StationFacts.{StationFacts}
+use Rattle.station_input.specs.{Reading.station_of, declared.facts.StationFacts.StationFacts}
 use Rattle.vote_pool.specs.Pools.{Pooled}
 use Rattle.vote_schedule.specs.Moments.{AnswersNext}
 use Rattle.vote_maker.specs.Made.{Basis, schedule_in}
-use Rattle.period_terms.specs.declared.state.State.{State}
-use Rattle.period_terms.specs.Histories.{IsStart}
+use Rattle.period_terms.specs.{declared.state.State.State, Histories.IsStart}
 use Rattle.period_core.specs.Starting.{Starts}
-use Rattle.station_commands.specs.Descriptors.{RefusesDescriptors}
-use Rattle.station_commands.specs.Order.{IsInOrder, IsOutOfOrder, roster_in}
-use Rattle.station_commands.specs.Voting.{HasPool, IsBasisOf}
-use Rattle.station_commands.specs.declared.refusal.OrderWord.{OrderWord}
+use Rattle.station_commands.specs.{Descriptors.RefusesDescriptors, Order.{IsInOrder, IsOutOfOrder, roster_in}}
+use Rattle.station_commands.specs.{Voting.{HasPool, IsBasisOf}, declared.refusal.OrderWord.OrderWord}
 use Rattle.station_commands.specs.declared.refusal.PoolRefusal.{PoolRefusal}
-use Rattle.station_commands.specs.WithFile.{BeginsWithFile, IsFaultyBehind, RefusesFile, station_behind}
-use Rattle.station_commands.specs.declared.file_refusal.BandwidthRefusal.{BandwidthRefusal}
+use Rattle.station_commands.specs.{declared.file_refusal.BandwidthRefusal.BandwidthRefusal, WithFile.BeginsWithFile}
+use Rattle.station_commands.specs.WithFile.{IsFaultyBehind, RefusesFile, station_behind}
 use Rattle.serve_command.specs.Told.{by_end, by_fault, by_file, by_order, by_pool, cert_refused}
 use Rattle.serve_command.specs.declared.refusal.ServeRefusal.{ServeRefusal}
 

@@ -2,17 +2,13 @@
 use Rattle.std.specs.Prelude.{Option, Some, None}
 use Rattle.authority_certs.specs.declared.checking.CertAnswer.{CertAnswer}
 use Rattle.frame_terms.specs.declared.fault.FrameFault.{FrameFault}
-use Rattle.daemon_words.specs.Stops.{told_as}
-use Rattle.daemon_words.specs.declared.stop.Stop.{Stop}
+use Rattle.daemon_words.specs.{Stops.told_as, declared.stop.Stop.Stop}
 use Rattle.daemon_words.specs.declared.stop.Stop.TheVariants as stop
-use Rattle.station_commands.specs.Told.{cert_word}
-use Rattle.station_commands.specs.declared.refusal.CertWord.{CertWord}
-use Rattle.station_commands.specs.declared.refusal.OrderWord.{OrderWord}
-use Rattle.station_commands.specs.declared.refusal.PoolRefusal.{PoolRefusal}
-use Rattle.station_commands.specs.declared.refusal.PoolRefusal.TheVariants as pool
-use Rattle.station_commands.specs.declared.refusal.StationRefusal.{StationRefusal}
-use Rattle.station_commands.specs.declared.refusal.StationRefusal.TheVariants as station
+use Rattle.station_commands.specs.{Told.cert_word, declared.refusal.{CertWord.CertWord, OrderWord.OrderWord}}
+use Rattle.station_commands.specs.declared.refusal.{PoolRefusal.PoolRefusal, StationRefusal.StationRefusal}
 use Rattle.station_commands.specs.declared.file_refusal.BandwidthRefusal.{BandwidthRefusal}
+use Rattle.station_commands.specs.declared.refusal.PoolRefusal.TheVariants as pool
+use Rattle.station_commands.specs.declared.refusal.StationRefusal.TheVariants as station
 use Rattle.serve_command.specs.declared.refusal.ServeRefusal.{ServeRefusal}
 use Rattle.serve_command.specs.declared.refusal.ServeRefusal.TheVariants as refusal
 
@@ -31,6 +27,7 @@ of_file given = told_as by_file given
 abbrev pub by_fault : FrameFault → ServeRefusal
 by_fault fault = refusal.Station (station.Fault fault)
 
+-- the stop of a reading of what a station is given, as the command is told it
 abbrev pub of_fault : Stop FrameFault → Stop ServeRefusal
 of_fault given = told_as by_fault given
 

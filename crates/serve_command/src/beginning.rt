@@ -3,8 +3,7 @@ ghost use Rattle.std.specs.Prelude.{◌≡◌, ◌≤◌, ◌<◌, ◌^◌, Err,
 ghost use Rattle.dir_bytes.specs.Causes.{Rose};
 ghost use Rattle.key_port.specs.Answers.{rules};
 ghost use Rattle.authority_certs.specs.Checks.{IsCertified};
-ghost use Rattle.serve_command.specs.Private.{CanBeginBy, StopsFor};
-ghost use Rattle.serve_command.specs.Starting.{RefusesCertificate, RefusesStation};
+ghost use Rattle.serve_command.specs.{Private.{CanBeginBy, StopsFor}, Starting.{RefusesCertificate, RefusesStation}};
 
 use crate::refusal::ServeRefusal;
 use crate::told::{cert_refused, of_order, of_pool, station_stop};

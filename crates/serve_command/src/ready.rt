@@ -2,9 +2,7 @@
 ghost use Rattle.std.specs.Prelude.{◌≡◌, ◌≤◌, ◌<◌, ◌^◌, Err, IfErr, IfOk, length};
 ghost use Rattle.dir_bytes.specs.Causes.{Rose};
 ghost use Rattle.key_port.specs.Answers.{rules};
-ghost use Rattle.flag_rules.specs.Rules.{AreApart};
-ghost use Rattle.serve_command.specs.Private.{IsOpened, IsReady, StopsFor};
-ghost use Rattle.serve_command.specs.Starting.{RefusesStation, RefusesToServe};
+ghost use Rattle.serve_command.specs.{Private.{IsOpened, IsReady, StopsFor}, Starting.{RefusesStation, RefusesToServe}};
 
 use crate::beginning::beginning_of;
 use crate::refusal::ServeRefusal;
@@ -43,7 +41,6 @@ fn open_board<V: Verifier>(
 ) -> Result<(OperatorList, Board<V>, Vec<Pass<V>>), Stop<ServeRefusal>>
     requires short { length bytes.now < 2 ^ 61 }
     requires within { used ≤ length bytes.now }
-    requires apart { AreApart station.now.rules }
     requires some { 0 < workers }
     ensures opened { IfOk result (λ opened. IsOpened (rules V.may_accept V.may_refuse) now station.now used bytes.now
         workers opened.0 opened.1 opened.2.items) }
@@ -53,7 +50,7 @@ fn open_board<V: Verifier>(
         → Rose (V.faults verifier.old) (V.faults verifier.new) }
     ensures told { V.faults verifier.old < V.faults verifier.new → result ≡ Err (Stop.Refused ServeRefusal.Verifier) }
 {
-    let operator = OperatorList::new(station.rules.as_slice().to_vec(alloc)?);
+    let operator = OperatorList::new(station.rules.as_slice().to_vec(alloc)?)?;
     let (schedule, pool) = beginning_of(alloc, bytes, station, used, now, verifier)?;
     let started = start(alloc, station, schedule, now)?;
     let (board, passes) = Board::new(alloc, started, pool, workers)?;

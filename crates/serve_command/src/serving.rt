@@ -3,8 +3,7 @@ ghost use Rattle.std.specs.Prelude.{◌≡◌, ◌≤◌, ◌<◌, ◌^◌, All,
 ghost use Rattle.key_port.specs.Answers.{rules};
 ghost use Rattle.flag_rules.specs.Rules.{list_allows, ruling_for};
 ghost use Rattle.serve_board.specs.Boards.{IsAt};
-ghost use Rattle.serve_work.specs.Serving.{AreAsMany, Serves};
-ghost use Rattle.serve_work.specs.Workers.{HasWorked};
+ghost use Rattle.serve_work.specs.{Serving.{AreAsMany, Serves}, Workers.HasWorked};
 ghost use Rattle.serve_command.specs.Serving.{AsksClock, HasWorkers, ServeAnswers, ServesNone};
 
 use crate::ready::{Ready, prepare};

@@ -1,7 +1,6 @@
 // The authority as it starts.
 ghost use Rattle.std.specs.Prelude.{◌≡◌, ◌≢◌, IfOk, None, Ok};
-ghost use Rattle.period_terms.specs.Histories.{IsStart};
-ghost use Rattle.period_terms.specs.Schedules.{next_valid_after};
+ghost use Rattle.period_terms.specs.{Histories.IsStart, Schedules.next_valid_after};
 ghost use Rattle.vote_maker.specs.Made.{schedule_in};
 ghost use Rattle.station_commands.specs.Order.{IsInOrder, roster_in};
 ghost use Rattle.serve_command.specs.Starting.{IsStartOf};

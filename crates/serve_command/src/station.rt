@@ -1,7 +1,6 @@
 // What the station of an input is given.
 ghost use Rattle.std.specs.Prelude.{◌≢◌, ◌<◌, ◌^◌, Err, IfErr, IfOk, length};
-ghost use Rattle.serve_command.specs.Private.{IsReadIn, StopsFor};
-ghost use Rattle.serve_command.specs.Starting.{IsFaultyIn};
+ghost use Rattle.serve_command.specs.{Private.{IsReadIn, StopsFor}, Starting.IsFaultyIn};
 
 use crate::refusal::ServeRefusal;
 use crate::told::{of_fault, of_file};
@@ -10,7 +9,6 @@ use count_terms::Newest;
 use daemon_words::{Measures, Stop};
 use station_commands::{file_of, station_behind, station_of};
 use station_input::StationFacts;
-use station_laws::relays_are_named_once;
 use std::alloc::Global;
 
 /// What a station is given behind the bandwidth file with which an input begins, and the place behind it.
@@ -53,7 +51,6 @@ pub(crate) fn station_in(
     ensures stops { IfErr result (λ why. StopsFor (IsFaultyIn measures newest now bytes.now) why) }
     ensures unasked { result ≢ Err (Stop.Refused ServeRefusal.Verifier) }
 {
-    relays_are_named_once();
     match measures {
         Measures::Station => match station_of(alloc, newest, bytes) {
             Ok((station, used)) => Ok((station, used)),

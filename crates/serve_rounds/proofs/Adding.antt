@@ -1,39 +1,24 @@
 -- What a pass of a board added, over several events and readings.
-use Rattle.std.proofs.Common.{◌≡◌, ℕ, Bool, true, false, List, [], ◌∷◌, ◌++◌, map, Option, Some, None, Result, Ok}
-use Rattle.std.proofs.Common.{Err, refl, sym, ap, ◌∙◌, subst, append_assoc, append-nil, option_to_list}
-use Rattle.std.specs.Global.{Vec}
+use Rattle.std.proofs.Common.{◌≡◌, ℕ, Bool, true, false, List, [], ◌∷◌, ◌++◌, map, Option, Some, None, Result, Ok, Err}
+use Rattle.std.proofs.Common.{refl, sym, ap, ◌∙◌, subst, append_assoc, append-nil, option_to_list}
+use Rattle.std.{proofs.lemmas.List.{map-append, Elements.{All-append, All-cons, All-nil, All-weaker}}, specs.Global.Vec}
 use Rattle.std.specs.Prelude.{IfSome, All, if◌then◌else◌}
-use Rattle.std.proofs.lemmas.List.{map-append}
-use Rattle.std.proofs.lemmas.List.Elements.{All-append, All-cons, All-nil, All-weaker}
 use mathlib.Core.List.{IsPrefix}
 use Rattle.dir_bytes.specs.declared.fault.Memory.{Memory}
-use Rattle.key_port.specs.Answers.{Relation, Rules}
-use Rattle.key_port.specs.Signing.{SignerSteps}
-use Rattle.flag_rules.specs.declared.relay.RelayFacts.{RelayFacts}
-use Rattle.flag_rules.specs.declared.ruling.Ruling.{Ruling}
+use Rattle.key_port.specs.{Answers.{Relation, Rules}, Signing.SignerSteps}
+use Rattle.flag_rules.specs.declared.{relay.RelayFacts.RelayFacts, ruling.Ruling.Ruling}
 use Rattle.station_input.specs.declared.facts.StationFacts.{StationFacts}
 use Rattle.vote_pool.specs.Pools.{Pooled}
 use Rattle.period_lock.specs.Turns.{entries, entry_by}
-use Rattle.period_terms.specs.declared.answer.Advance.{Advance}
-use Rattle.period_terms.specs.declared.answer.Answer.{Answer}
-use Rattle.period_terms.specs.declared.answer.Answer.TheVariants.{Moment}
-use Rattle.period_terms.specs.declared.entry.Entry.{Entry}
-use Rattle.period_terms.specs.declared.event.Event.{Event}
-use Rattle.period_terms.specs.declared.event.Event.TheVariants.{Advanced}
-use Rattle.period_terms.specs.declared.event.Signing.{Signing}
-use Rattle.period_terms.specs.declared.state.State.{State}
-use Rattle.period_terms.specs.Advances.{MayGiveAt}
-use Rattle.period_terms.specs.Histories.{after, entry_if}
+use Rattle.period_terms.specs.declared.answer.{Advance.Advance, Answer.{Answer, TheVariants.Moment}}
+use Rattle.period_terms.specs.declared.{entry.Entry.Entry, event.{Event.{Event, TheVariants.Advanced}, Signing.Signing}}
+use Rattle.period_terms.specs.{declared.state.State.State, Advances.MayGiveAt, Histories.{after, entry_if}}
 use Rattle.period_terms.specs.Steps.{changes}
 use Rattle.period_laws.specs.Checked.{IsCheckedHistory}
-use Rattle.serve_board.specs.Boards.{Locks, Parts, Makes, Sees, Looks, Advances}
-use Rattle.serve_board.specs.Stocks.{stock_after}
-use Rattle.serve_board.specs.Going.{Goes}
+use Rattle.serve_board.specs.{Boards.{Locks, Parts, Makes, Sees, Looks, Advances}, Stocks.stock_after, Going.Goes}
 use Rattle.serve_board.proofs.Going.{goes_same, goes_on, goes_makes, goes_sees, goes_looks, prefix_same}
-use Rattle.serve_rounds.specs.Duties.{AdvancesAll, IsAdvance}
-use Rattle.serve_rounds.specs.OwnVotes.{IsTextMade, IsTextOfBoard}
-use Rattle.serve_rounds.specs.Spans.{AddedKind, Adds, AddsNone, Since}
-use Rattle.serve_rounds.proofs.Lasting.{Lasts, advance_lasts, if_earlier}
+use Rattle.serve_rounds.specs.{Duties.{AdvancesAll, IsAdvance}, OwnVotes.{IsTextMade, IsTextOfBoard}, Spans.AddedKind}
+use Rattle.serve_rounds.{specs.Spans.{Adds, AddsNone, Since}, proofs.Lasting.{Lasts, advance_lasts, if_earlier}}
 
 -- a text that was made of the board's pool at a reading, where there is one
 pub text_there : {N : Type 0} (rules : Rules) (gives : Relation) (steps : SignerSteps N)

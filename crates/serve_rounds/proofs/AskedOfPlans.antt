@@ -1,16 +1,14 @@
 -- What was asked of a plan, part by part and peer by peer.
-use Rattle.std.proofs.Common.{◌≡◌, ℕ, ◌+◌, ◌<◌, Bool, true, false, List, [], ◌∷◌, ◌++◌, take, length, get_or}
-use Rattle.std.proofs.Common.{Option, Some, None, inl, inr, refl, sym, ap, subst, ◌∙◌}
+use Rattle.std.proofs.Common.{◌≡◌, ℕ, ◌+◌, ◌<◌, Bool, true, false, List, [], ◌∷◌, ◌++◌, take, length, get_or, Option}
+use Rattle.std.proofs.{Common.{Some, None, inl, inr, refl, sym, ap, subst, ◌∙◌}, lemmas.List.{append-nil, map-append}}
+use Rattle.std.proofs.lemmas.List.{take_more, Elements.filter_map-append, Concat.flat_map-append}
 use Rattle.std.specs.Prelude.{option_to_list, option_map, filter_map, flat_map, if◌then◌else◌}
-use Rattle.std.proofs.lemmas.List.{append-nil, map-append, take_more}
-use Rattle.std.proofs.lemmas.List.Elements.{filter_map-append}
-use Rattle.std.proofs.lemmas.List.Concat.{flat_map-append}
 use Rattle.dir_values.specs.declared.digest.Fingerprint.{Fingerprint}
 use Rattle.station_input.specs.declared.facts.Peer.{Peer}
 use Rattle.dir_http.specs.Responses.{post_text}
-use Rattle.serve_rounds.specs.Exchanges.{AsksSome, LinkSteps, MayAsk, Whatever}
-use Rattle.serve_rounds.specs.Plans.{Asking, GetVote, GetSignatures, Planned, address_of}
-use Rattle.serve_rounds.specs.Plans.{limit_of, peers_among, request_of, to_each, votes_at}
+use Rattle.serve_rounds.specs.{Exchanges.{AsksSome, LinkSteps, MayAsk, Whatever}, Plans.{Asking, GetVote}}
+use Rattle.serve_rounds.specs.Plans.{GetSignatures, Planned, address_of, limit_of, peers_among, request_of, to_each}
+use Rattle.serve_rounds.specs.Plans.{votes_at}
 
 -- ---- of a plan
 

@@ -1,38 +1,26 @@
 -- Between what moments of a pass something was asked, held or signed.
-use Rattle.std.proofs.Common.{◌≡◌, ◌⊎◌, ℕ, Bool, true, false, List, [], ◌∷◌, ◌++◌, map}
-use Rattle.std.proofs.Common.{Option, Some, None, Result, Ok, inl, inr, refl, sym, subst, ◌∙◌}
-use Rattle.std.specs.Prelude.{IfSome, MatchResult, is_some}
-use Rattle.std.proofs.lemmas.Bool.{true≢false}
+use Rattle.std.proofs.Common.{◌≡◌, ◌⊎◌, ℕ, Bool, true, false, List, [], ◌∷◌, ◌++◌, map, Option, Some, None, Result, Ok}
+use Rattle.std.{proofs.{Common.{inl, inr, refl, sym, subst, ◌∙◌}, lemmas.Bool.true≢false}, specs.Prelude.IfSome}
+use Rattle.std.specs.Prelude.{MatchResult, is_some}
 use mathlib.Core.List.{IsPrefix}
 use Rattle.dir_bytes.specs.declared.fault.Memory.{Memory}
 use Rattle.dir_values.specs.declared.digest.Fingerprint.{Fingerprint}
-use Rattle.key_port.specs.Answers.{Relation, Rules}
-use Rattle.key_port.specs.Signing.{SignerSteps}
-use Rattle.flag_rules.specs.declared.relay.RelayFacts.{RelayFacts}
-use Rattle.flag_rules.specs.declared.ruling.Ruling.{Ruling}
+use Rattle.key_port.specs.{Answers.{Relation, Rules}, Signing.SignerSteps}
+use Rattle.flag_rules.specs.declared.{relay.RelayFacts.RelayFacts, ruling.Ruling.Ruling}
 use Rattle.station_input.specs.declared.facts.StationFacts.{StationFacts}
 use Rattle.vote_schedule.specs.declared.phase.Phase.{Phase}
 use Rattle.period_lock.specs.Turns.{entries}
-use Rattle.period_terms.specs.declared.answer.Advance.{Advance}
-use Rattle.period_terms.specs.declared.answer.Advance.TheVariants.{Signed}
-use Rattle.period_terms.specs.declared.answer.Answer.TheVariants.{Moment}
-use Rattle.period_terms.specs.declared.entry.Entry.{Entry}
-use Rattle.period_terms.specs.declared.event.Event.TheVariants.{Advanced}
-use Rattle.period_terms.specs.declared.name.Name.TheVariants.{Vote}
-use Rattle.period_terms.specs.declared.state.State.{State}
-use Rattle.period_terms.specs.Histories.{after}
-use Rattle.period_terms.specs.Readings.{document_of}
+use Rattle.period_terms.specs.declared.answer.{Advance.{Advance, TheVariants.Signed}, Answer.TheVariants.Moment}
+use Rattle.period_terms.specs.declared.{entry.Entry.Entry, event.Event.TheVariants.Advanced, name.Name.TheVariants.Vote}
+use Rattle.period_terms.specs.{declared.state.State.State, Histories.after, Readings.document_of}
 use Rattle.checked_sigs.specs.Next.{next_signatures_of}
-use Rattle.serve_board.specs.Boards.{Locks, Parts, Sees, Advances}
-use Rattle.serve_board.specs.Going.{Goes}
-use Rattle.serve_board.proofs.Going.{prefix_on, prefix_same}
-use Rattle.serve_rounds.specs.declared.round.Round.{Round}
-use Rattle.serve_rounds.specs.Exchanges.{AsksAs, BringsSignatures, DoesPhase, HasSigned, IsDue, IsOwnText, LinkSteps}
-use Rattle.serve_rounds.specs.Exchanges.{StoodSo}
-use Rattle.serve_rounds.specs.Plans.{Asking, GetVote, GetSignatures, PostSignatures, PostVote, turned_round, phase_in}
-use Rattle.serve_rounds.specs.Plans.{plan_of_phase, plan_of_signatures}
-use Rattle.serve_rounds.proofs.Lasting.{period_earlier, seen_earlier, seen_later, text_earlier, text_later}
-use Rattle.serve_rounds.proofs.AskedOfPlans.{asks_wider}
+use Rattle.serve_board.{specs.{Boards.{Locks, Parts, Sees, Advances}, Going.Goes}, proofs.Going.prefix_on}
+use Rattle.serve_board.proofs.Going.{prefix_same}
+use Rattle.serve_rounds.specs.{declared.round.Round.Round, Exchanges.{AsksAs, BringsSignatures, DoesPhase, HasSigned}}
+use Rattle.serve_rounds.specs.{Exchanges.{IsDue, IsOwnText, LinkSteps, StoodSo}, Plans.{Asking, GetVote, GetSignatures}}
+use Rattle.serve_rounds.specs.Plans.{PostSignatures, PostVote, turned_round, phase_in, plan_of_phase}
+use Rattle.serve_rounds.{specs.Plans.plan_of_signatures, proofs.Lasting.{period_earlier, seen_earlier, seen_later}}
+use Rattle.serve_rounds.proofs.{Lasting.{text_earlier, text_later}, AskedOfPlans.asks_wider}
 
 -- ---- where the state stood so
 

@@ -1,8 +1,7 @@
 -- What calls keep of what is lent, one behind the other.
 use Rattle.std.proofs.Common.{◌≡◌, ◌∙◌, ℕ, ap, arith, subst}
 use Rattle.serve_board.specs.Boards.{Locks}
-use Rattle.serve_rounds.specs.declared.lent.Lent.{Lent}
-use Rattle.serve_rounds.specs.Keeping.{Keeps}
+use Rattle.serve_rounds.specs.{declared.lent.Lent.Lent, Keeping.Keeps}
 
 -- over two calls
 pub keeps_on : {V N L : Type 0} (V_faults : V → ℕ) (N_faults : N → ℕ) (L_faults : L → ℕ) (board : Locks)

@@ -2,20 +2,15 @@
 use Rattle.std.proofs.Common.{◌≡◌, ◌⊎◌, ℕ, Bool, List, [], ◌∷◌, ◌++◌, Option, Some, None, inl, inr, subst}
 use Rattle.std.specs.Prelude.{IfSome}
 use mathlib.Core.List.{IsPrefix}
-use Rattle.key_port.specs.Answers.{Relation, Rules}
-use Rattle.key_port.specs.Signing.{SignerSteps}
-use Rattle.flag_rules.specs.declared.relay.RelayFacts.{RelayFacts}
-use Rattle.flag_rules.specs.declared.ruling.Ruling.{Ruling}
+use Rattle.key_port.specs.{Answers.{Relation, Rules}, Signing.SignerSteps}
+use Rattle.flag_rules.specs.declared.{relay.RelayFacts.RelayFacts, ruling.Ruling.Ruling}
 use Rattle.station_input.specs.declared.facts.StationFacts.{StationFacts}
 use Rattle.vote_terms.specs.Votes.{ReadVote}
 use Rattle.period_lock.specs.Turns.{entries}
 use Rattle.period_terms.specs.declared.entry.Entry.{Entry}
 use Rattle.period_laws.specs.Checked.{IsCheckedHistory}
-use Rattle.serve_board.specs.Boards.{Locks, Parts, Sees}
-use Rattle.serve_board.specs.Going.{Goes}
-use Rattle.serve_board.proofs.Going.{prefix_on, prefix_same}
-use Rattle.serve_rounds.specs.Duties.{IsAdvance, IsOwn, IsRound}
-use Rattle.serve_rounds.specs.OwnVotes.{IsOwnVote, IsPeriodOf, IsTextOfBoard}
+use Rattle.serve_board.{specs.{Boards.{Locks, Parts, Sees}, Going.Goes}, proofs.Going.{prefix_on, prefix_same}}
+use Rattle.serve_rounds.specs.{Duties.{IsAdvance, IsOwn, IsRound}, OwnVotes.{IsOwnVote, IsPeriodOf, IsTextOfBoard}}
 use Rattle.serve_rounds.specs.Spans.{AddedKind, Anywhere, Since, WasSeen}
 
 -- An entry of a kind is one over a longer time too.

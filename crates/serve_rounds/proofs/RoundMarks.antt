@@ -1,9 +1,7 @@
 -- What a round marks is what it says where it is done already.
-use Rattle.std.proofs.Common.{◌≡◌, ℕ, Bool, true, false, List, Option, None, refl, ap}
-use Rattle.std.specs.Prelude.{if◌then◌else◌}
+use Rattle.std.{proofs.Common.{◌≡◌, ℕ, Bool, true, false, List, Option, None, refl, ap}, specs.Prelude.if◌then◌else◌}
 use Rattle.vote_schedule.specs.declared.phase.Phase.TheVariants as phases
-use Rattle.serve_rounds.specs.declared.round.Round.{Round}
-use Rattle.serve_rounds.specs.Plans.{marked_signatures, must_bring, marked_phase}
+use Rattle.serve_rounds.specs.{declared.round.Round.Round, Plans.{marked_signatures, must_bring, marked_phase}}
 
 -- ---- marks
 

@@ -2,30 +2,22 @@
 use Rattle.std.specs.Prelude.{◌≡◌, ◌⊎◌, ◌++◌, ◌∷◌, [], ℕ, Bool, List, Result, Ok, Err}
 use Rattle.dir_bytes.specs.declared.fault.Memory.{Memory}
 use mathlib.Core.List.{IsPrefix}
-use Rattle.key_port.specs.Answers.{Relation, Rules, Steps}
-use Rattle.key_port.specs.Signing.{SignerSteps}
-use Rattle.flag_rules.specs.declared.relay.RelayFacts.{RelayFacts}
-use Rattle.flag_rules.specs.declared.ruling.Ruling.{Ruling}
+use Rattle.key_port.specs.{Answers.{Relation, Rules, Steps}, Signing.SignerSteps}
+use Rattle.flag_rules.specs.declared.{relay.RelayFacts.RelayFacts, ruling.Ruling.Ruling}
 use Rattle.station_input.specs.declared.facts.StationFacts.{StationFacts}
 use Rattle.lone_vote.specs.Alone.{IsVote}
-use Rattle.vote_terms.specs.Acceptable.{IsVerified}
-use Rattle.vote_terms.specs.Votes.{ReadVote}
-use Rattle.period_terms.specs.declared.view.PeriodView.{PeriodView}
-use Rattle.checked_sigs.specs.Checks.{ChecksAll, Tally}
-use Rattle.period_terms.specs.declared.answer.Advance.{Advance}
-use Rattle.period_terms.specs.declared.answer.Advance.TheVariants as moments
-use Rattle.period_terms.specs.declared.entry.Entry.{Entry}
-use Rattle.period_terms.specs.declared.event.Event.TheVariants.{Offered, Advanced, SignedIn}
-use Rattle.period_terms.specs.declared.event.Signing.{Signing}
+use Rattle.vote_terms.specs.{Acceptable.IsVerified, Votes.ReadVote}
+use Rattle.period_terms.specs.declared.{view.PeriodView.PeriodView, answer.Advance.Advance, entry.Entry.Entry}
+use Rattle.period_terms.specs.declared.event.{Event.TheVariants.{Offered, Advanced, SignedIn}, Signing.Signing}
 use Rattle.period_terms.specs.declared.event.Via.TheVariants.{Fetched, Own}
-use Rattle.period_terms.specs.declared.signature.OfferedSignature.{OfferedSignature}
-use Rattle.period_terms.specs.Advances.{MayGiveAt}
+use Rattle.period_terms.specs.{declared.signature.OfferedSignature.OfferedSignature, Advances.MayGiveAt}
 use Rattle.period_terms.specs.Histories.{after}
+use Rattle.checked_sigs.specs.Checks.{ChecksAll, Tally}
+use Rattle.period_terms.specs.declared.answer.Advance.TheVariants as moments
 use Rattle.period_laws.specs.Checked.{IsAcceptedAs, IsCheckedHistory}
 use Rattle.period_lock.specs.Turns.{entries}
 use Rattle.serve_board.specs.Boards.{Locks, Parts, Advances}
-use Rattle.serve_rounds.specs.OwnVotes.{IsOwnVote, IsPeriodOf}
-use Rattle.serve_rounds.specs.Spans.{Adds}
+use Rattle.serve_rounds.specs.{OwnVotes.{IsOwnVote, IsPeriodOf}, Spans.Adds}
 
 -- ---- which entries duties may add
 

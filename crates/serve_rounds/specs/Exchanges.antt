@@ -1,32 +1,23 @@
 -- What duties asked of the peers, of what was planned (dir-spec, "Voting timeline").
 use Rattle.std.specs.Prelude.{◌≡◌, ◌⊎◌, ◌++◌, ◌∷◌, [], ℕ, Bool, true, List, Option, Some, None, IfSome}
 use mathlib.Core.List.{IsPrefix}
-use Rattle.key_port.specs.Answers.{Relation, Rules}
-use Rattle.key_port.specs.Signing.{SignerSteps}
-use Rattle.flag_rules.specs.declared.relay.RelayFacts.{RelayFacts}
-use Rattle.flag_rules.specs.declared.ruling.Ruling.{Ruling}
+use Rattle.key_port.specs.{Answers.{Relation, Rules}, Signing.SignerSteps}
+use Rattle.flag_rules.specs.declared.{relay.RelayFacts.RelayFacts, ruling.Ruling.Ruling}
 use Rattle.station_input.specs.declared.facts.StationFacts.{StationFacts}
 use Rattle.vote_schedule.specs.declared.phase.Phase.{Phase}
 use Rattle.vote_terms.specs.Votes.{ReadVote}
-use Rattle.period_terms.specs.declared.answer.Advance.TheVariants.{Signed}
-use Rattle.period_terms.specs.declared.answer.Answer.TheVariants.{Moment}
-use Rattle.period_terms.specs.declared.entry.Entry.{Entry}
-use Rattle.period_terms.specs.declared.name.Name.TheVariants.{Vote}
-use Rattle.period_terms.specs.declared.state.State.{State}
-use Rattle.period_terms.specs.Histories.{after}
-use Rattle.period_terms.specs.Readings.{document_of}
+use Rattle.period_terms.specs.declared.answer.{Advance.TheVariants.Signed, Answer.TheVariants.Moment}
+use Rattle.period_terms.specs.declared.{entry.Entry.Entry, name.Name.TheVariants.Vote, state.State.State}
+use Rattle.period_terms.specs.{Histories.after, Readings.document_of}
 use Rattle.period_laws.specs.Checked.{IsCheckedHistory}
 use Rattle.period_lock.specs.Turns.{entries}
 use Rattle.checked_sigs.specs.Next.{next_signatures_of}
 use Rattle.dir_http.specs.declared.link.LinkAnswer.{LinkAnswer}
 use Rattle.serve_board.specs.Boards.{Locks, Parts}
-use Rattle.serve_rounds.specs.declared.round.Round.{Round}
-use Rattle.serve_rounds.specs.OwnVotes.{IsOwnVote, IsPeriodOf}
-use Rattle.serve_rounds.specs.Plans.{Asking, GetVote, PostVote, PostSignatures}
-use Rattle.serve_rounds.specs.Plans.{GetSignatures, Planned, limit_of, request_of}
-use Rattle.serve_rounds.specs.Plans.{plan_of_signatures, plan_of_phase, marked_signatures}
-use Rattle.serve_rounds.specs.Plans.{marked_phase, phase_in, turned_round}
-use Rattle.serve_rounds.specs.Spans.{WasSeen}
+use Rattle.serve_rounds.specs.{declared.round.Round.Round, OwnVotes.{IsOwnVote, IsPeriodOf}, Plans.{Asking, GetVote}}
+use Rattle.serve_rounds.specs.Plans.{PostVote, PostSignatures, GetSignatures, Planned, limit_of, request_of}
+use Rattle.serve_rounds.specs.Plans.{plan_of_signatures, plan_of_phase, marked_signatures, marked_phase, phase_in}
+use Rattle.serve_rounds.specs.{Plans.turned_round, Spans.WasSeen}
 
 -- ---- what is asked of the plan
 

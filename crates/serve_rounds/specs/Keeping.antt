@@ -2,9 +2,7 @@
 use Rattle.std.specs.Prelude.{◌≡◌, ◌≤◌, ℕ, List}
 use Rattle.key_port.specs.Answers.{Rules}
 use Rattle.serve_board.specs.Boards.{IsAt, Locks, Parts}
-use Rattle.serve_rounds.specs.declared.lent.Lent.{Lent}
-use Rattle.serve_rounds.specs.Exchanges.{AsksSome, IsDue, LinkSteps}
-use Rattle.serve_rounds.specs.Plans.{Planned}
+use Rattle.serve_rounds.specs.{declared.lent.Lent.Lent, Exchanges.{AsksSome, IsDue, LinkSteps}, Plans.Planned}
 use Rattle.serve_rounds.specs.Spans.{AddedKind, Adds, AddsNone}
 
 -- The same is lent still, its pass is of the board, and no count fell.

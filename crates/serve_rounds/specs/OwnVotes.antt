@@ -1,21 +1,15 @@
 -- The vote that an authority makes at a board (dir-spec, "Voting timeline").
 use Rattle.std.specs.Prelude.{◌≡◌, ℕ, Bool, List}
-use Rattle.key_port.specs.Answers.{Relation, Rules}
-use Rattle.key_port.specs.Signing.{SignerSteps}
+use Rattle.key_port.specs.{Answers.{Relation, Rules}, Signing.SignerSteps}
 use Rattle.descriptor_doc.specs.declared.descriptor.Descriptor.{Descriptor}
-use Rattle.flag_rules.specs.declared.relay.RelayFacts.{RelayFacts}
-use Rattle.flag_rules.specs.declared.ruling.Ruling.{Ruling}
+use Rattle.flag_rules.specs.declared.{relay.RelayFacts.RelayFacts, ruling.Ruling.Ruling}
 use Rattle.station_input.specs.declared.facts.StationFacts.{StationFacts}
 use Rattle.lone_vote.specs.Alone.{IsVote}
-use Rattle.vote_maker.specs.Made.{basis}
-use Rattle.vote_maker.specs.Making.{IsMade}
-use Rattle.vote_terms.specs.Acceptable.{IsVerified}
-use Rattle.vote_terms.specs.Votes.{ReadVote}
-use Rattle.period_terms.specs.declared.entry.Entry.{Entry}
-use Rattle.period_terms.specs.Histories.{after}
+use Rattle.vote_maker.specs.{Made.basis, Making.IsMade}
+use Rattle.vote_terms.specs.{Acceptable.IsVerified, Votes.ReadVote}
+use Rattle.period_terms.specs.{declared.entry.Entry.Entry, Histories.after}
 use Rattle.period_laws.specs.Checked.{IsCheckedHistory}
-use Rattle.serve_board.specs.Boards.{Locks, Parts}
-use Rattle.serve_board.specs.Stocks.{stock_after, AreKept}
+use Rattle.serve_board.specs.{Boards.{Locks, Parts}, Stocks.{stock_after, AreKept}}
 use Rattle.period_lock.specs.Turns.{entries}
 use Rattle.serve_rounds.specs.Spans.{WasSeen}
 

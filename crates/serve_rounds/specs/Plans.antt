@@ -1,15 +1,11 @@
 -- What an authority is to ask of its peers in a period, and what it marks as done (dir-spec, "Voting timeline").
-use Rattle.std.specs.Prelude.{◌++◌, [], ◌==◌, ◌&&◌, ◌||◌, not, ℕ, Bool, true, false, List, map, codes}
-use Rattle.std.specs.Prelude.{Option, Some, None, Result, Ok, Err, flat_map, filter_map, if◌then◌else◌}
-use Rattle.dir_values.specs.declared.digest.Fingerprint.{Fingerprint}
-use Rattle.dir_values.specs.Digests.{fingerprint_text, same_identity}
-use Rattle.station_input.specs.declared.facts.Peer.{Peer}
-use Rattle.station_input.specs.declared.facts.StationFacts.{StationFacts}
-use Rattle.vote_schedule.specs.declared.config.ScheduleFault.{ScheduleFault}
-use Rattle.vote_schedule.specs.declared.phase.Phase.{Phase}
-use Rattle.vote_schedule.specs.declared.phase.Phase.TheVariants as phases
-use Rattle.vote_schedule.specs.Moments.{phase_of}
+use Rattle.std.specs.Prelude.{◌++◌, [], ◌==◌, ◌&&◌, ◌||◌, not, ℕ, Bool, true, false, List, map, codes, Option, Some}
+use Rattle.std.specs.Prelude.{None, Result, Ok, Err, flat_map, filter_map, if◌then◌else◌}
+use Rattle.dir_values.specs.{declared.digest.Fingerprint.Fingerprint, Digests.{fingerprint_text, same_identity}}
+use Rattle.station_input.specs.declared.facts.{Peer.Peer, StationFacts.StationFacts}
+use Rattle.vote_schedule.specs.{declared.{config.ScheduleFault.ScheduleFault, phase.Phase.Phase}, Moments.phase_of}
 use Rattle.vote_schedule.specs.Schedules.{Schedule, schedule_of}
+use Rattle.vote_schedule.specs.declared.phase.Phase.TheVariants as phases
 use Rattle.dir_http.specs.Responses.{get_text, post_text}
 use Rattle.serve_rounds.specs.declared.round.Round.{Round}
 

@@ -2,8 +2,7 @@
 use Rattle.std.specs.Prelude.{◌≡◌, ◌++◌, ℕ, List, All, map}
 use mathlib.Core.List.{IsPrefix}
 use Rattle.period_terms.specs.declared.entry.Entry.{Entry}
-use Rattle.serve_board.specs.Boards.{Parts}
-use Rattle.serve_board.specs.Going.{Goes}
+use Rattle.serve_board.specs.{Boards.Parts, Going.Goes}
 
 -- a kind of entries that a pass adds between what it had seen and what it then has
 abbrev pub AddedKind : Type 1

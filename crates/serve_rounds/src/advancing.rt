@@ -3,9 +3,7 @@ ghost use Rattle.std.specs.Prelude.{◌≡◌, ◌≤◌, ◌⊎◌, Ok, true, I
 ghost use Rattle.dir_bytes.specs.Causes.{Rose};
 ghost use Rattle.key_port.specs.Answers.{rules};
 ghost use Rattle.serve_board.specs.Boards.{IsAt, Advances, Parts};
-ghost use Rattle.serve_rounds.specs.Duties.{AdvancesAll, IsAdvance, Settles};
-ghost use Rattle.serve_rounds.specs.Exchanges.{HasSigned};
-ghost use Rattle.serve_rounds.specs.Spans.{Adds};
+ghost use Rattle.serve_rounds.specs.{Duties.{AdvancesAll, IsAdvance, Settles}, Exchanges.HasSigned, Spans.Adds};
 
 use dir_bytes::Memory;
 use key_port::{Signer, Verifier};

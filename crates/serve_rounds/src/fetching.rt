@@ -5,11 +5,9 @@ ghost use Rattle.dir_values.specs.Digests.{fingerprint_text};
 ghost use Rattle.vote_terms.specs.Acceptable.{IsVerified};
 ghost use Rattle.serve_board.specs.Boards.{IsAt};
 ghost use Rattle.vote_schedule.specs.declared.phase.Phase.TheVariants as phases;
-ghost use Rattle.serve_rounds.specs.Duties.{IsFetched, StandsAlone};
-ghost use Rattle.serve_rounds.specs.Exchanges.{MayAsk};
-ghost use Rattle.serve_rounds.specs.Keeping.{AddsTo, AsksOf, Keeps};
-ghost use Rattle.serve_rounds.specs.Plans.{GetVote, all_votes, marked_phase, plan_of_phase, request_of, votes_at};
-ghost use Rattle.serve_rounds.specs.Spans.{Anywhere};
+ghost use Rattle.serve_rounds.specs.{Duties.{IsFetched, StandsAlone}, Exchanges.MayAsk, Keeping.{AddsTo, AsksOf}};
+ghost use Rattle.serve_rounds.specs.{Keeping.Keeps, Plans.{GetVote, all_votes, marked_phase, plan_of_phase}};
+ghost use Rattle.serve_rounds.specs.{Plans.{request_of, votes_at}, Spans.Anywhere};
 
 use crate::lent::{Given, Lent};
 use crate::peers::{address_of, body_of};

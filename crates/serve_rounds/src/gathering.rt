@@ -3,11 +3,9 @@ ghost use Rattle.std.specs.Prelude.{◌≡◌, None};
 ghost use Rattle.key_port.specs.Answers.{rules};
 ghost use Rattle.serve_board.specs.Boards.{IsAt};
 ghost use Rattle.vote_schedule.specs.declared.phase.Phase.TheVariants as phases;
-ghost use Rattle.serve_rounds.specs.Duties.{IsGathered};
-ghost use Rattle.serve_rounds.specs.Exchanges.{AsksSome, MayAsk, Whatever};
-ghost use Rattle.serve_rounds.specs.Keeping.{AddsTo, Keeps};
-ghost use Rattle.serve_rounds.specs.Plans.{GetSignatures, marked_phase, peers_of, plan_of_phase, request_of, to_each};
-ghost use Rattle.serve_rounds.specs.Spans.{Anywhere};
+ghost use Rattle.serve_rounds.specs.{Duties.IsGathered, Exchanges.{AsksSome, MayAsk, Whatever}, Keeping.AddsTo};
+ghost use Rattle.serve_rounds.specs.{Keeping.Keeps, Plans.{GetSignatures, marked_phase, peers_of, plan_of_phase}};
+ghost use Rattle.serve_rounds.specs.{Plans.{request_of, to_each}, Spans.Anywhere};
 
 use crate::lent::{Given, Lent};
 use crate::peers::{address_of, body_of};

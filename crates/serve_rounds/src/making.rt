@@ -2,8 +2,7 @@
 ghost use Rattle.std.specs.Prelude.{◌≡◌, ◌≤◌, IfSome, IsTrue};
 ghost use Rattle.key_port.specs.Answers.{rules};
 ghost use Rattle.serve_board.specs.Boards.{IsAt, Parts};
-ghost use Rattle.serve_rounds.specs.Keeping.{AddsNothing, Keeps};
-ghost use Rattle.serve_rounds.specs.OwnVotes.{IsTextMade, IsTextOfBoard};
+ghost use Rattle.serve_rounds.specs.{Keeping.{AddsNothing, Keeps}, OwnVotes.{IsTextMade, IsTextOfBoard}};
 ghost use Rattle.serve_rounds.specs.Spans.{AddsNone};
 
 use crate::lent::{Given, Lent};

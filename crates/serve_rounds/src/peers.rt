@@ -2,8 +2,8 @@
 ghost use Rattle.std.specs.Prelude.{◌≡◌, ◌≤◌, option_map};
 ghost use Rattle.dir_http.specs.Responses.{get_text, post_text};
 ghost use Rattle.serve_rounds.specs.Plans as plans;
-ghost use Rattle.serve_rounds.specs.Exchanges.{AsksSome, MayAsk, Whatever};
-ghost use Rattle.serve_rounds.specs.Plans.{Asking, limit_of, peers_of, request_of, to_each};
+ghost use Rattle.serve_rounds.specs.{Exchanges.{AsksSome, MayAsk, Whatever}, Plans.{Asking, limit_of, peers_of}};
+ghost use Rattle.serve_rounds.specs.Plans.{request_of, to_each};
 
 use dir_http::{Link, fetch, post};
 use station_input::{Peer, StationFacts};

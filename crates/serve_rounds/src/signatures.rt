@@ -2,10 +2,8 @@
 ghost use Rattle.std.specs.Prelude.{◌≡◌, ◌≤◌, IfSome};
 ghost use Rattle.key_port.specs.Answers.{rules};
 ghost use Rattle.serve_board.specs.Boards.{IsAt, Parts};
-ghost use Rattle.serve_rounds.specs.Duties.{IsGathered, TellsAccepted};
-ghost use Rattle.serve_rounds.specs.Exchanges.{BringsSignatures};
-ghost use Rattle.serve_rounds.specs.Keeping.{AddsNothing, Keeps};
-ghost use Rattle.serve_rounds.specs.Spans.{Adds, Anywhere};
+ghost use Rattle.serve_rounds.specs.{Duties.{IsGathered, TellsAccepted}, Exchanges.BringsSignatures};
+ghost use Rattle.serve_rounds.specs.{Keeping.{AddsNothing, Keeps}, Spans.{Adds, Anywhere}};
 
 use crate::lent::{Given, Lent};
 use crate::peers::post_to_peers;

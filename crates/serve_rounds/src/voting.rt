@@ -1,14 +1,10 @@
 // The own vote: read, checked, offered, and brought to the peers.
 ghost use Rattle.std.specs.Prelude.{◌≡◌, IfSome};
 ghost use Rattle.key_port.specs.Answers.{rules};
-ghost use Rattle.serve_board.specs.Boards.{IsAt, Parts};
-ghost use Rattle.serve_board.specs.Going.{Goes};
-ghost use Rattle.serve_rounds.specs.Duties.{IsOwn};
+ghost use Rattle.serve_board.specs.{Boards.{IsAt, Parts}, Going.Goes};
+ghost use Rattle.serve_rounds.specs.{Duties.IsOwn, Exchanges.{DoesPhase, IsOwnText}, Keeping.{AddsNothing, AddsTo}};
+ghost use Rattle.serve_rounds.specs.{Keeping.Keeps, OwnVotes.{IsOwnVote, IsPeriodOf}, Spans.Since};
 ghost use Rattle.vote_schedule.specs.declared.phase.Phase.TheVariants as phases;
-ghost use Rattle.serve_rounds.specs.Exchanges.{DoesPhase, IsOwnText};
-ghost use Rattle.serve_rounds.specs.Keeping.{AddsNothing, AddsTo, Keeps};
-ghost use Rattle.serve_rounds.specs.OwnVotes.{IsOwnVote, IsPeriodOf};
-ghost use Rattle.serve_rounds.specs.Spans.{Since};
 
 use crate::lent::{Given, Lent};
 use crate::making::own_text;

@@ -2,14 +2,9 @@
 ghost use Rattle.std.specs.Prelude.{◌≡◌, ◌≤◌, Ok};
 ghost use Rattle.dir_bytes.specs.Causes.{Counts, Rose};
 ghost use Rattle.key_port.specs.Answers.{rules};
-ghost use Rattle.serve_board.specs.Boards.{IsAt, Parts};
-ghost use Rattle.serve_board.specs.Going.{Goes};
-ghost use Rattle.serve_rounds.specs.Duties.{Duties, IsRound};
-ghost use Rattle.serve_rounds.specs.Exchanges.{AsksAs, AsksPeers, DoesPhase};
-ghost use Rattle.serve_rounds.specs.Keeping.{AddsTo, Keeps};
-ghost use Rattle.serve_rounds.specs.OwnVotes.{IsPeriodOf};
-ghost use Rattle.serve_rounds.specs.Plans.{phase_in};
-ghost use Rattle.serve_rounds.specs.Spans.{Since};
+ghost use Rattle.serve_board.specs.{Boards.{IsAt, Parts}, Going.Goes};
+ghost use Rattle.serve_rounds.specs.{Duties.{Duties, IsRound}, Exchanges.{AsksAs, AsksPeers, DoesPhase}};
+ghost use Rattle.serve_rounds.specs.{Keeping.{AddsTo, Keeps}, OwnVotes.IsPeriodOf, Plans.phase_in, Spans.Since};
 
 use crate::advancing::advance_all;
 use crate::fetching::fetch_once;

@@ -1,35 +1,21 @@
 -- What a pass added at both locks, over several events and readings.
-use Rattle.std.proofs.Common.{◌≡◌, ◌⊎◌, ℕ, Bool, true, false, List, [], ◌∷◌, ◌++◌, Some, None, inl, inr}
-use Rattle.std.proofs.Common.{refl, sym, ap, ◌∙◌, subst, append-nil, option_to_list}
-use Rattle.std.specs.Prelude.{IfSome, All, if◌then◌else◌}
-use Rattle.std.proofs.lemmas.List.{map-append}
-use Rattle.std.proofs.lemmas.List.Elements.{All-append, All-nil, All-weaker}
-use Rattle.key_port.specs.Answers.{Relation, Rules}
-use Rattle.key_port.specs.Signing.{SignerSteps}
+use Rattle.std.proofs.Common.{◌≡◌, ◌⊎◌, ℕ, Bool, true, false, List, [], ◌∷◌, ◌++◌, Some, None, inl, inr, refl, sym, ap}
+use Rattle.std.proofs.{Common.{◌∙◌, subst, append-nil, option_to_list}, lemmas.List.{map-append, Elements.All-append}}
+use Rattle.std.{proofs.lemmas.List.Elements.{All-nil, All-weaker}, specs.Prelude.{IfSome, All, if◌then◌else◌}}
+use Rattle.key_port.specs.{Answers.{Relation, Rules}, Signing.SignerSteps}
 use Rattle.descriptor_doc.specs.declared.descriptor.Descriptor.{Descriptor}
-use Rattle.flag_rules.specs.declared.relay.RelayFacts.{RelayFacts}
-use Rattle.flag_rules.specs.declared.ruling.Ruling.{Ruling}
+use Rattle.flag_rules.specs.declared.{relay.RelayFacts.RelayFacts, ruling.Ruling.Ruling}
 use Rattle.station_input.specs.declared.facts.StationFacts.{StationFacts}
 use Rattle.vote_pool.specs.declared.answers.Keep.{Keep}
 use Rattle.period_lock.specs.Turns.{entries, entry_by}
-use Rattle.period_terms.specs.declared.answer.Answer.{Answer}
-use Rattle.period_terms.specs.declared.entry.Entry.{Entry}
-use Rattle.period_terms.specs.declared.event.Event.{Event}
-use Rattle.period_terms.specs.declared.event.Event.TheVariants.{SignedIn}
-use Rattle.period_terms.specs.declared.signature.OfferedSignature.{OfferedSignature}
-use Rattle.period_terms.specs.declared.state.State.{State}
-use Rattle.period_terms.specs.Histories.{after, entry_if}
-use Rattle.period_terms.specs.Steps.{step, changes}
-use Rattle.period_laws.specs.Checked.{IsChecked, IsCheckedHistory, anything, events_of}
-use Rattle.period_laws.specs.Periods.{Along}
-use Rattle.serve_board.specs.Boards.{Locks, Parts, Makes, Stores}
-use Rattle.serve_board.specs.Stocks.{kept_if}
-use Rattle.serve_board.specs.Going.{Goes}
+use Rattle.period_terms.specs.declared.{answer.Answer.Answer, entry.Entry.Entry, event.Event.Event}
+use Rattle.period_terms.specs.declared.{event.Event.TheVariants.SignedIn, signature.OfferedSignature.OfferedSignature}
+use Rattle.period_terms.specs.{declared.state.State.State, Histories.{after, entry_if}, Steps.{step, changes}}
+use Rattle.period_laws.specs.{Checked.{IsChecked, IsCheckedHistory, anything, events_of}, Periods.Along}
+use Rattle.serve_board.specs.{Boards.{Locks, Parts, Makes, Stores}, Stocks.kept_if, Going.Goes}
 use Rattle.serve_board.proofs.Going.{goes_same, goes_on, goes_makes, goes_stores}
-use Rattle.serve_rounds.specs.Duties.{IsAdvance, IsGathered, IsRound}
-use Rattle.serve_rounds.specs.Spans.{AddedKind, Adds}
-use Rattle.serve_rounds.proofs.Adding.{all_one, entry_by-map, own_more}
-use Rattle.serve_rounds.proofs.Lasting.{Lasts, advance_lasts, round_lasts}
+use Rattle.serve_rounds.specs.{Duties.{IsAdvance, IsGathered, IsRound}, Spans.{AddedKind, Adds}}
+use Rattle.serve_rounds.proofs.{Adding.{all_one, entry_by-map, own_more}, Lasting.{Lasts, advance_lasts, round_lasts}}
 use Rattle.serve_work.specs.Workers.{IsUploaded, IsWork, Works}
 
 -- ---- passes

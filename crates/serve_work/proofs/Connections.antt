@@ -1,52 +1,34 @@
 -- What is done for a connection is work.
 use Rattle.std.proofs.Common.{◌≡◌, ◌⊎◌, ℕ, Bool, List, [], ◌∷◌, Option, Some, None, Result, Ok, Err, inl, inr, refl, ap}
-use Rattle.std.proofs.Common.{drop, subst}
-use Rattle.std.specs.Prelude.{IfSome}
+use Rattle.std.{proofs.Common.{drop, subst}, specs.Prelude.IfSome}
 use Rattle.consensus_terms.specs.declared.flavour.Flavour.{Flavour}
 use Rattle.dir_bytes.specs.declared.fault.Memory.{Memory}
-use Rattle.dir_http.specs.declared.fault.HttpFault.{HttpFault}
-use Rattle.dir_http.specs.Requests.{ReadRequest}
-use Rattle.key_port.specs.Answers.{Relation, Rules, Steps}
-use Rattle.key_port.specs.Signing.{SignerSteps}
+use Rattle.dir_http.specs.{declared.fault.HttpFault.HttpFault, Requests.ReadRequest}
+use Rattle.key_port.specs.{Answers.{Relation, Rules, Steps}, Signing.SignerSteps}
 use Rattle.descriptor_doc.specs.Checks as descriptors
 use Rattle.descriptor_doc.specs.declared.descriptor.Descriptor.{Descriptor}
-use Rattle.flag_rules.specs.declared.relay.RelayFacts.{RelayFacts}
-use Rattle.flag_rules.specs.declared.ruling.Ruling.{Ruling}
+use Rattle.flag_rules.specs.declared.{relay.RelayFacts.RelayFacts, ruling.Ruling.Ruling}
 use Rattle.station_input.specs.declared.facts.StationFacts.{StationFacts}
-use Rattle.http_words.specs.DigestLists.{digest_list}
-use Rattle.http_words.specs.declared.asked.Asked.{Asked}
+use Rattle.http_words.specs.{DigestLists.digest_list, declared.{asked.Asked.Asked, replies.Reply.Reply}}
+use Rattle.http_words.specs.declared.{connection.ConnStatus.ConnStatus, outcome.Outcome.{Outcome, TheVariants.Found}}
+use Rattle.http_words.specs.{declared.outcome.Outcome.TheVariants.Replied, Paths.asked_by, Connections.DoesFor}
+use Rattle.http_words.specs.Connections.{Handles}
 use Rattle.http_words.specs.declared.asked.Asked.TheVariants as asked
-use Rattle.http_words.specs.declared.replies.Reply.{Reply}
-use Rattle.http_words.specs.Paths.{asked_by}
 use Rattle.vote_pool.specs.Pools.{Pooled, is_change}
-use Rattle.period_terms.specs.declared.answer.Answer.TheVariants.{Signature, Vote}
-use Rattle.period_terms.specs.declared.answer.SignIn.{SignIn}
-use Rattle.period_terms.specs.declared.event.Event.TheVariants.{Offered, SignedIn}
-use Rattle.period_terms.specs.declared.event.Via.TheVariants.{Upload}
-use Rattle.period_terms.specs.declared.entry.Entry.{Entry}
-use Rattle.period_terms.specs.declared.signature.OfferedSignature.{OfferedSignature}
-use Rattle.period_terms.specs.declared.state.State.{State}
-use Rattle.period_terms.specs.Histories.{entry_if}
+use Rattle.period_terms.specs.declared.answer.{Answer.TheVariants.{Signature, Vote}, SignIn.SignIn}
+use Rattle.period_terms.specs.declared.event.{Event.TheVariants.{Offered, SignedIn}, Via.TheVariants.Upload}
+use Rattle.period_terms.specs.declared.{entry.Entry.Entry, signature.OfferedSignature.OfferedSignature}
+use Rattle.period_terms.specs.{declared.state.State.State, Histories.entry_if, Readings.document_of}
 use Rattle.period_terms.specs.declared.name.Name.TheVariants as names
-use Rattle.period_terms.specs.Readings.{document_of}
-use Rattle.serve_board.specs.Boards.{Locks, Parts, Looks, Sees}
-use Rattle.serve_board.proofs.Going.{goes_looks, goes_sees}
-use Rattle.serve_answers.specs.Answers.{TakesDescriptor, TakesRuled, TakesVote}
-use Rattle.http_words.specs.Connections.{DoesFor, Handles}
-use Rattle.serve_answers.specs.Connections.{Serves}
+use Rattle.serve_board.{specs.Boards.{Locks, Parts, Looks, Sees}, proofs.Going.{goes_looks, goes_sees}}
+use Rattle.serve_answers.specs.{Answers.{TakesDescriptor, TakesRuled, TakesVote}, Connections.Serves}
 use Rattle.serve_answers.specs.Finding.{AddsNothing, Finds, FindsAsked, FindsMicros, FindsNothing, Reads, ReadsCurrent}
-use Rattle.serve_answers.specs.Finding.{flavour_of}
+use Rattle.serve_answers.specs.{Finding.flavour_of, Handling.{Counted, Does, SignsEach, TakesSignatures}}
 use Rattle.serve_answers.specs.Handling as handling
-use Rattle.serve_answers.specs.Handling.{Counted, Does, SignsEach, TakesSignatures}
-use Rattle.http_words.specs.declared.connection.ConnStatus.{ConnStatus}
 use Rattle.http_words.specs.declared.connection.ConnStatus.TheVariants as status
-use Rattle.http_words.specs.declared.outcome.Outcome.{Outcome}
-use Rattle.http_words.specs.declared.outcome.Outcome.TheVariants.{Found, Replied}
-use Rattle.serve_rounds.specs.Duties.{IsGathered}
-use Rattle.serve_rounds.proofs.Adding.{entry_kind}
-use Rattle.serve_work.specs.Workers.{HasWorked, IsTakenIn, IsWork}
-use Rattle.serve_work.proofs.Additions.{kept_such, signed_in, work_lasts, works_makes, works_more, works_none, works_still}
-use Rattle.serve_work.proofs.Additions.{works_stores}
+use Rattle.serve_rounds.{specs.Duties.IsGathered, proofs.Adding.entry_kind}
+use Rattle.serve_work.{specs.Workers.{HasWorked, IsTakenIn, IsWork}, proofs.Additions.{kept_such, signed_in}}
+use Rattle.serve_work.proofs.Additions.{work_lasts, works_makes, works_more, works_none, works_still, works_stores}
 
 if_wider : {X : Type 0} (P Q : X → Type 0) → ((x : X) → P x → Q x) → (x : Option X) → IfSome x P → IfSome x Q
 if_wider P Q wider None is = tt

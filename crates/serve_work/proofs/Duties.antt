@@ -1,17 +1,14 @@
 -- What duties do is work.
 use Rattle.std.proofs.Common.{◌≡◌, ℕ, Bool, Result, inl, inr, refl}
 use Rattle.dir_bytes.specs.declared.fault.Memory.{Memory}
-use Rattle.key_port.specs.Answers.{Relation, Rules}
-use Rattle.key_port.specs.Signing.{SignerSteps}
-use Rattle.flag_rules.specs.declared.relay.RelayFacts.{RelayFacts}
-use Rattle.flag_rules.specs.declared.ruling.Ruling.{Ruling}
+use Rattle.key_port.specs.{Answers.{Relation, Rules}, Signing.SignerSteps}
+use Rattle.flag_rules.specs.declared.{relay.RelayFacts.RelayFacts, ruling.Ruling.Ruling}
 use Rattle.station_input.specs.declared.facts.StationFacts.{StationFacts}
 use Rattle.period_terms.specs.declared.answer.Advance.{Advance}
 use Rattle.serve_board.specs.Boards.{Locks, Parts}
-use Rattle.serve_rounds.specs.Duties.{Duties, IsAdvance, IsRound}
-use Rattle.serve_rounds.proofs.Adding.{adds_advanced, adds_more, adds_wider}
-use Rattle.serve_work.specs.Workers.{HasWorked, IsTakenIn, IsWork}
-use Rattle.serve_work.proofs.Additions.{work_lasts, works_adds}
+use Rattle.serve_rounds.{specs.Duties.{Duties, IsAdvance, IsRound}, proofs.Adding.{adds_advanced, adds_more}}
+use Rattle.serve_rounds.proofs.Adding.{adds_wider}
+use Rattle.serve_work.{specs.Workers.{HasWorked, IsTakenIn, IsWork}, proofs.Additions.{work_lasts, works_adds}}
 
 pub duties_work : {N C : Type 0} (rules : Rules) (gives : Relation) (steps : SignerSteps N)
     (allows : RelayFacts → Ruling → Bool) (station : StationFacts) (last : C → ℕ) (clock : C) (board : Locks)

@@ -1,20 +1,16 @@
 -- What the gates of workers tell of all gates.
 use Rattle.std.proofs.Common.{◌≡◌, ℕ, ◌<◌, List, map, length, sym, ap, ◌∙◌, subst, arith, true, inr}
-use Rattle.std.specs.Prelude.{All, Bool, Option, slice_index_or}
-use Rattle.std.proofs.lemmas.List.{get_or-map, length-map}
-use Rattle.std.proofs.lemmas.List.Elements.{All-map, All-same}
+use Rattle.std.{proofs.lemmas.List.{get_or-map, length-map, Elements.{All-map, All-same}}, specs.Prelude.{All, Bool}}
+use Rattle.std.specs.Prelude.{Option, slice_index_or}
 use Rattle.key_port.specs.Answers.{Rules}
 use Rattle.vote_pool.specs.Pools.{Pooled}
 use Rattle.period_terms.specs.declared.state.State.{State}
-use Rattle.gate_workers.specs.declared.running.Ran.{Ran}
+use Rattle.gate_workers.specs.{declared.{running.Ran.Ran, worker.Worker.Worker}, Workers.{GateRose, RanTo}}
 use Rattle.gate_workers.specs.declared.running.Ran.TheVariants as ran
-use Rattle.gate_workers.specs.declared.worker.Worker.{Worker}
-use Rattle.gate_workers.specs.Workers.{GateRose, RanTo}
 use Rattle.serve_board.specs.Boards.{Locks, Parts, IsAt, Leaves}
-use Rattle.serve_work.specs.declared.serving.Served.{Served}
+use Rattle.serve_work.specs.{declared.serving.Served.Served, Serving.{EachClosed, GatesRan, LeavesBoard, Reports}}
+use Rattle.serve_work.specs.{Serving.{Serves, SomeRose}, Workers.HaveWorked}
 use Rattle.serve_work.specs.declared.serving.Served.TheVariants as served
-use Rattle.serve_work.specs.Serving.{EachClosed, GatesRan, LeavesBoard, Reports, Serves, SomeRose}
-use Rattle.serve_work.specs.Workers.{HaveWorked}
 
 module _ {G K : Type 0} (faults : G → ℕ) (closed : G → Bool) (ws ws' : List (Worker G K)) (gates gates' : List G)
     (was : map (λ w. w.gate) ws ≡ gates) (is : gates' ≡ map (λ w. w.gate) ws') (long : length ws' ≡ length ws) where

@@ -1,12 +1,9 @@
 -- What holds of workers by their places, and of what they had.
 use Rattle.std.proofs.Common.{◌≡◌, ℕ, ◌<◌, ◌≤◌, List, [], ◌∷◌, map, length, refl, sym, ap, ◌∙◌, subst, arith}
-use Rattle.std.specs.Prelude.{All, Bool, slice_index_or}
-use Rattle.std.proofs.lemmas.List.{get_or-map, length-map}
-use Rattle.std.proofs.lemmas.List.Elements.{All-map, All-same}
+use Rattle.std.{proofs.lemmas.List.{get_or-map, length-map, Elements.{All-map, All-same}}, specs.Prelude.{All, Bool}}
+use Rattle.std.specs.Prelude.{slice_index_or}
 use Rattle.serve_board.specs.Boards.{Locks, Parts, IsAt}
-use Rattle.flag_rules.specs.Rules.{KeepsTo}
-use Rattle.flag_rules.specs.declared.hook.Hook.{Hook}
-use Rattle.flag_rules.specs.declared.relay.RelayFacts.{RelayFacts}
+use Rattle.flag_rules.specs.{Rules.KeepsTo, declared.{hook.Hook.Hook, relay.RelayFacts.RelayFacts}}
 use Rattle.flag_rules.specs.declared.ruling.Ruling.{Ruling}
 use Rattle.station_input.specs.declared.facts.StationFacts.{StationFacts}
 use Rattle.serve_work.specs.Attendants.{ComesTo, MayAttend, Orders}

@@ -1,8 +1,6 @@
 -- What workers may do, and what they come to.
 use Rattle.std.specs.Prelude.{◌≡◌, ◌≤◌, ℕ, Bool}
-use Rattle.flag_rules.specs.Rules.{KeepsTo}
-use Rattle.flag_rules.specs.declared.relay.RelayFacts.{RelayFacts}
-use Rattle.flag_rules.specs.declared.ruling.Ruling.{Ruling}
+use Rattle.flag_rules.specs.{Rules.KeepsTo, declared.{relay.RelayFacts.RelayFacts, ruling.Ruling.Ruling}}
 use Rattle.station_input.specs.declared.facts.StationFacts.{StationFacts}
 use Rattle.serve_board.specs.Boards.{Locks, Parts, IsAt}
 

@@ -5,10 +5,8 @@ use Rattle.hex.specs.Hex.{encode_lower}
 use Rattle.dir_bytes.specs.FieldTexts.{hex_text}
 use Rattle.dir_values.specs.declared.digest.Fingerprint.{Fingerprint}
 use Rattle.item_terms.specs.Bytes.{line_feed}
-use Rattle.period_terms.specs.declared.change.Change.{Change}
-use Rattle.period_terms.specs.declared.change.ChangeKind.{ChangeKind}
+use Rattle.period_terms.specs.declared.{change.{Change.Change, ChangeKind.ChangeKind}, state.State.State}
 use Rattle.period_terms.specs.declared.change.ChangeKind.TheVariants as kind
-use Rattle.period_terms.specs.declared.state.State.{State}
 
 -- the word of a kind of changes
 abbrev pub kind_word : ChangeKind → List ℕ

@@ -5,13 +5,11 @@ use Rattle.dir_bytes.specs.Causes.{Rose}
 use Rattle.key_port.specs.Answers.{Rules}
 use Rattle.vote_pool.specs.Pools.{Pooled}
 use Rattle.period_terms.specs.declared.state.State.{State}
-use Rattle.serve_work.specs.Reports.{report_text}
+use Rattle.serve_work.specs.{Reports.report_text, declared.serving.Served.Served, Workers.HaveWorked}
 use Rattle.gate_workers.specs.declared.running.Ran.{Ran}
 use Rattle.gate_workers.specs.declared.running.Ran.TheVariants as ran
 use Rattle.serve_board.specs.Boards.{Locks, Parts, IsAt, Leaves}
-use Rattle.serve_work.specs.declared.serving.Served.{Served}
 use Rattle.serve_work.specs.declared.serving.Served.TheVariants as served
-use Rattle.serve_work.specs.Workers.{HaveWorked}
 
 -- The report on a state was written whole; or there was no memory, and nothing was written; or a front of it was
 -- written, and the sink's count of faults rose.

@@ -1,23 +1,15 @@
 -- What workers add to a board.
 use Rattle.std.specs.Prelude.{◌≡◌, ◌≢◌, ◌⊎◌, ◌++◌, ◌<◌, ℕ, Bool, [], List, All, IsTrue, length, map, slice_index_or}
-use Rattle.key_port.specs.Answers.{Relation, Rules}
-use Rattle.key_port.specs.Signing.{SignerSteps}
+use Rattle.key_port.specs.{Answers.{Relation, Rules}, Signing.SignerSteps}
 use Rattle.descriptor_doc.specs.Checks as descriptors
 use Rattle.descriptor_doc.specs.declared.descriptor.Descriptor.{Descriptor}
-use Rattle.flag_rules.specs.declared.relay.RelayFacts.{RelayFacts}
-use Rattle.flag_rules.specs.declared.ruling.Ruling.{Ruling}
-use Rattle.flag_rules.specs.declared.ruling.Ruling.TheVariants.{Reject}
+use Rattle.flag_rules.specs.declared.{relay.RelayFacts.RelayFacts, ruling.Ruling.{Ruling, TheVariants.Reject}}
 use Rattle.station_input.specs.declared.facts.StationFacts.{StationFacts}
 use Rattle.vote_maker.specs.Relays.{known_of}
-use Rattle.vote_terms.specs.Acceptable.{IsVerified}
-use Rattle.vote_terms.specs.Votes.{ReadVote}
-use Rattle.period_terms.specs.declared.entry.Entry.{Entry}
-use Rattle.period_terms.specs.declared.event.Event.TheVariants.{Offered}
-use Rattle.period_terms.specs.declared.event.Via.TheVariants.{Upload}
-use Rattle.serve_board.specs.Boards.{Locks, Parts}
-use Rattle.serve_board.specs.Going.{Goes}
-use Rattle.serve_rounds.specs.Duties.{IsAdvance, IsRound}
-use Rattle.serve_rounds.specs.Spans.{AddedKind}
+use Rattle.vote_terms.specs.{Acceptable.IsVerified, Votes.ReadVote}
+use Rattle.period_terms.specs.declared.{entry.Entry.Entry, event.{Event.TheVariants.Offered, Via.TheVariants.Upload}}
+use Rattle.serve_board.specs.{Boards.{Locks, Parts}, Going.Goes}
+use Rattle.serve_rounds.specs.{Duties.{IsAdvance, IsRound}, Spans.AddedKind}
 
 -- ---- which entries and which descriptors
 

@@ -50,8 +50,7 @@ impl<
     O: Sink,
 > Clerk<I, O> for Attendant<'a, 'b, 'c, H, W, F, C, V, N, L> {
     ghost use Rattle.key_port.specs.Answers as keys;
-    ghost use Rattle.serve_work.specs.Attendants.{ComesTo, MayAttend};
-    ghost use Rattle.serve_work.specs.Workers.{HasWorked};
+    ghost use Rattle.serve_work.specs.{Attendants.{ComesTo, MayAttend}, Workers.HasWorked};
 
     ghost may_work = { λ a.
         MayAttend W.allows F.pre F.post a.board.now a.pass a.hook.now.rules a.hook.now.ask };

@@ -3,8 +3,7 @@ ghost use Rattle.std.specs.Prelude.{◌≡◌, ◌<◌, ◌≤◌, All, length};
 ghost use Rattle.key_port.specs.Answers.{rules};
 ghost use Rattle.flag_rules.specs.Rules.{KeepsTo};
 ghost use Rattle.serve_board.specs.Boards.{IsAt};
-ghost use Rattle.serve_work.specs.Serving.{AreAsMany, HaveFailedOn, Serves};
-ghost use Rattle.serve_work.specs.Workers.{HasWorked};
+ghost use Rattle.serve_work.specs.{Serving.{AreAsMany, HaveFailedOn, Serves}, Workers.HasWorked};
 
 use crate::outside::Outside;
 use crate::reporting::report;

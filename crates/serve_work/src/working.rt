@@ -3,8 +3,7 @@ ghost use Rattle.std.specs.Prelude.{◌≡◌, ◌<◌, ◌≤◌, All, IfOk, On
 ghost use Rattle.key_port.specs.Answers.{rules};
 ghost use Rattle.flag_rules.specs.Rules.{KeepsTo};
 ghost use Rattle.serve_board.specs.Boards.{IsAt};
-ghost use Rattle.serve_work.specs.Serving.{AreAsMany, GatesRan, HaveFailedOn};
-ghost use Rattle.serve_work.specs.Workers.{HasWorked, HaveWorked};
+ghost use Rattle.serve_work.specs.{Serving.{AreAsMany, GatesRan, HaveFailedOn}, Workers.{HasWorked, HaveWorked}};
 
 use crate::attendant::Keeper;
 use crate::staff::{dismiss, hire};

@@ -1,9 +1,6 @@
 -- Descriptors that stand one behind the other, up to the end of the input.
 use Rattle.std.proofs.Common.{◌≡◌, ℕ, true, false, List, [], ◌∷◌, ◌++◌, Result, Ok, Err, refl, sym, ap, subst, ◌∙◌}
-use Rattle.std.specs.Prelude.{All}
-use Rattle.std.proofs.lemmas.Bool.{false≢true}
-use Rattle.std.proofs.lemmas.List.{append-nil}
-use Rattle.std.proofs.lemmas.List.Elements.{All-head, All-tail}
+use Rattle.std.{proofs.lemmas.{Bool.false≢true, List.{append-nil, Elements.{All-head, All-tail}}}, specs.Prelude.All}
 use Rattle.count_terms.specs.declared.newest.Newest.{Newest}
 use Rattle.blank_lines.specs.Ends.{ends_at}
 use Rattle.frame_terms.specs.declared.fault.ReadRefusal.{ReadRefusal}

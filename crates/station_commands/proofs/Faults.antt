@@ -1,6 +1,5 @@
 -- Where a call does not fail, its count of faults is as it was.
-use Rattle.std.proofs.Common.{◌≡◌, ◌<◌, ◌≤◌, ℕ, Ok, Err, ⊎_elim, arith}
-use Rattle.std.proofs.lemmas.Bool.{cases_lt}
+use Rattle.std.proofs.{Common.{◌≡◌, ◌<◌, ◌≤◌, ℕ, Ok, Err, ⊎_elim, arith}, lemmas.Bool.cases_lt}
 
 pub no_fault : {A E : Type 0} {value : A} {error : E} (before now : ℕ) → before ≤ now
     → (before < now → Ok value ≡ Err error) → now ≡ before

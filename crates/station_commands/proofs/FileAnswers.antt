@@ -1,24 +1,19 @@
 -- What the command answers, call by call.
-use Rattle.std.proofs.Common.{◌≡◌, ℕ, List, Result, Ok, Err, inl, inr, refl, sym, subst}
-use Rattle.std.specs.Global.{Vec}
-use Rattle.key_port.specs.Answers.{Relation, Rules}
-use Rattle.key_port.specs.Signing.{SignerSteps}
-use Rattle.bandwidth_file.specs.declared.file.BandFile.{BandFile}
-use Rattle.bandwidth_file.specs.declared.front.Front.{Front}
+use Rattle.std.{proofs.Common.{◌≡◌, ℕ, List, Result, Ok, Err, inl, inr, refl, sym, subst}, specs.Global.Vec}
+use Rattle.key_port.specs.{Answers.{Relation, Rules}, Signing.SignerSteps}
+use Rattle.bandwidth_file.specs.declared.{file.BandFile.BandFile, front.Front.Front}
 use Rattle.count_terms.specs.declared.newest.Newest.{Newest}
 use Rattle.frame_terms.specs.declared.fault.FrameFault.{FrameFault}
-use Rattle.daemon_words.specs.Stops.{Answered}
-use Rattle.daemon_words.specs.declared.stop.Stop.{Stop}
+use Rattle.daemon_words.specs.{Stops.Answered, declared.stop.Stop.Stop}
 use Rattle.daemon_words.specs.declared.stop.Stop.TheVariants as stop
 use Rattle.station_input.specs.declared.facts.StationFacts.{StationFacts}
 use Rattle.station_commands.specs.Voting as station
-use Rattle.station_commands.specs.Voting.{VoteAnswers}
-use Rattle.station_commands.specs.declared.refusal.MakeVoteRefusal.{MakeVoteRefusal}
-use Rattle.station_commands.specs.Private.{GivesFile, GivesStationBehind}
-use Rattle.station_commands.specs.FileTold.{by_vote, of_fault, of_file, of_vote}
-use Rattle.station_commands.specs.WithFile.{BeginsWithFile, FileVoteAnswers, IsBeforeSigner, IsOfStation, station_behind}
+use Rattle.station_commands.specs.{Voting.VoteAnswers, declared.refusal.MakeVoteRefusal.MakeVoteRefusal}
 use Rattle.station_commands.specs.declared.file_refusal.BandwidthRefusal.{BandwidthRefusal}
-use Rattle.station_commands.specs.declared.file_refusal.FileVoteRefusal.{FileVoteRefusal}
+use Rattle.station_commands.specs.{declared.file_refusal.FileVoteRefusal.FileVoteRefusal, Private.GivesFile}
+use Rattle.station_commands.specs.{Private.GivesStationBehind, FileTold.{by_vote, of_fault, of_file, of_vote}}
+use Rattle.station_commands.specs.WithFile.{BeginsWithFile, FileVoteAnswers, IsBeforeSigner, IsOfStation}
+use Rattle.station_commands.specs.WithFile.{station_behind}
 
 module _ {N : Type 0} (rules : Rules) (gives : Relation) (steps : SignerSteps N) (newest : Newest) (now : ℕ)
     (bytes : List ℕ) (old new : N) where

@@ -1,27 +1,22 @@
 -- An input with a bandwidth file in front that a vote can be made of is refused only where the verifier or the signer failed.
 use Rattle.std.proofs.Common.{◌≡◌, ℕ, ◌+◌, List, Option, Some, None, Ok, Err, sym, ap, subst, ◌∙◌, inl, inr}
 use Rattle.std.specs.Prelude.{take}
-use Rattle.key_port.specs.Answers.{Relation, Rules}
-use Rattle.key_port.specs.Signing.{SignerSteps}
-use Rattle.bandwidth_file.specs.Ages.{IsOld}
-use Rattle.bandwidth_file.specs.Files.{IsBandFile}
-use Rattle.bandwidth_file.specs.declared.file.BandFile.{BandFile}
-use Rattle.bandwidth_file.specs.declared.refusal.BandFault.{BandFault}
+use Rattle.key_port.specs.{Answers.{Relation, Rules}, Signing.SignerSteps}
+use Rattle.bandwidth_file.specs.{Ages.IsOld, Files.IsBandFile, declared.file.BandFile.BandFile}
+use Rattle.bandwidth_file.specs.{declared.refusal.BandFault.BandFault, Fronts.{IsFront, end_size, fault_before}}
+use Rattle.bandwidth_file.specs.Fronts.{front_fault}
 use Rattle.bandwidth_laws.proofs.OneFile.{one_file}
-use Rattle.bandwidth_file.specs.Fronts.{IsFront, end_size, fault_before, front_fault}
 use Rattle.count_terms.specs.declared.newest.Newest.{Newest}
 use Rattle.frame_terms.specs.declared.fault.FrameFault.{FrameFault}
 use Rattle.frame_terms.specs.declared.fault.ReadRefusal.TheVariants as doc
 use Rattle.station_input.specs.declared.facts.StationFacts.{StationFacts}
-use Rattle.station_commands.specs.Voting.{RefusesVote}
-use Rattle.station_commands.specs.WithFile.{AnswersBehind, IsFaultyBehind, RefusesFile, station_behind}
-use Rattle.station_commands.specs.declared.file_refusal.BandwidthRefusal.{BandwidthRefusal}
-use Rattle.station_commands.specs.declared.file_refusal.BandwidthRefusal.TheVariants as bandwidth
+use Rattle.station_commands.specs.{Voting.RefusesVote, WithFile.{AnswersBehind, IsFaultyBehind, RefusesFile}}
+use Rattle.station_commands.specs.{WithFile.station_behind, declared.file_refusal.BandwidthRefusal.BandwidthRefusal}
 use Rattle.station_commands.specs.declared.file_refusal.FileVoteRefusal.{FileVoteRefusal}
 use Rattle.station_commands.specs.Answerable.{CanMakeVoteWithFile, IsOfKeysBehind, SuchFilesAreNotRefused}
-use Rattle.station_commands.proofs.Answers.{not_both, not_there}
-use Rattle.station_commands.proofs.NotRefused.{none_refused}
-use Rattle.station_commands.proofs.OneBasis.{given_in, used_in}
+use Rattle.station_commands.proofs.{Answers.{not_both, not_there}, NotRefused.none_refused, OneBasis.given_in}
+use Rattle.station_commands.proofs.OneBasis.{used_in}
+use Rattle.station_commands.specs.declared.file_refusal.BandwidthRefusal.TheVariants as bandwidth
 
 abbrev place_in : Option ℕ → ℕ
 place_in (Some place) = place

@@ -1,52 +1,33 @@
 -- An input that a vote can be made of is refused only where the verifier or the signer failed.
-use Rattle.std.proofs.Common.{◌≡◌, ℕ, List, ◌++◌, length, None, Ok, Err, refl, sym, ap, subst, ◌∙◌, arith}
-use Rattle.std.proofs.Common.{inl, inr}
-use Rattle.std.specs.Prelude.{All, IsTrue}
-use Rattle.std.proofs.lemmas.Bool.{false≢true}
-use Rattle.std.proofs.lemmas.List.Elements.{All-weaker}
+use Rattle.std.proofs.Common.{◌≡◌, ℕ, List, ◌++◌, length, None, Ok, Err, refl, sym, ap, subst, ◌∙◌, arith, inl, inr}
+use Rattle.std.{proofs.lemmas.{Bool.false≢true, List.Elements.All-weaker}, specs.Prelude.{All, IsTrue}}
 use Rattle.count_terms.specs.declared.newest.Newest.{Newest}
-use Rattle.dir_values.specs.Rosters.{has_member}
-use Rattle.dir_values.specs.declared.digest.Fingerprint.{Fingerprint}
-use Rattle.key_port.specs.Answers.{Relation, Rules}
-use Rattle.key_port.specs.Signing.{SignerSteps}
+use Rattle.dir_values.specs.{Rosters.has_member, declared.digest.Fingerprint.Fingerprint}
+use Rattle.key_port.specs.{Answers.{Relation, Rules}, Signing.SignerSteps}
 use Rattle.authority_certs.specs.declared.checking.CertAnswer.TheVariants as answer
-use Rattle.descriptor_doc.specs.Checks.{IsEdRefused, IsVerified, RefusedBy}
-use Rattle.descriptor_doc.specs.declared.descriptor.Descriptor.{Descriptor}
-use Rattle.flag_rules.specs.Relays.{ruled_relays}
-use Rattle.flag_rules.specs.Rules.{AreAllowed, RuleAlike, list_allows}
-use Rattle.flag_rules.specs.Rulings.{same_ruling}
-use Rattle.flag_rules.specs.declared.operator.OperatorRule.{OperatorRule}
-use Rattle.flag_rules.specs.declared.relay.RelayFacts.{RelayFacts}
-use Rattle.flag_rules.specs.declared.relay.RuledRelay.{RuledRelay}
-use Rattle.flag_rules.specs.declared.ruling.Ruling.{Ruling}
+use Rattle.descriptor_doc.specs.{Checks.{IsEdRefused, IsVerified, RefusedBy}, declared.descriptor.Descriptor.Descriptor}
+use Rattle.flag_rules.specs.{Relays.ruled_relays, Rules.{AreAllowed, RuleAlike, list_allows}, Rulings.same_ruling}
+use Rattle.flag_rules.specs.declared.{operator.OperatorRule.OperatorRule, relay.RelayFacts.RelayFacts}
+use Rattle.flag_rules.specs.declared.{relay.RuledRelay.RuledRelay, ruling.Ruling.Ruling}
 use Rattle.frame_terms.specs.declared.fault.FrameFault.{FrameFault}
 use Rattle.frame_terms.specs.declared.fault.ReadRefusal.TheVariants as doc
 use Rattle.daemon_words.specs.declared.stop.Stop.TheVariants as stop
-use Rattle.station_input.specs.Reading.{station_of}
-use Rattle.station_input.specs.declared.facts.StationFacts.{StationFacts}
+use Rattle.station_input.specs.{Reading.station_of, declared.facts.StationFacts.StationFacts}
 use Rattle.vote_pool.specs.Pools.{Pooled}
-use Rattle.vote_schedule.specs.Moments.{AnswersNext}
-use Rattle.vote_schedule.specs.Schedules.{Schedule}
-use Rattle.vote_maker.specs.Made.{Basis, schedule_in}
-use Rattle.vote_maker.specs.Making.{RefusesToMake}
-use Rattle.vote_maker.specs.declared.refusal.MakeRefusal.{MakeRefusal}
+use Rattle.vote_schedule.specs.{Moments.AnswersNext, Schedules.Schedule}
+use Rattle.vote_maker.specs.{Made.{Basis, schedule_in}, Making.RefusesToMake, declared.refusal.MakeRefusal.MakeRefusal}
 use Rattle.vote_maker.specs.declared.refusal.MakeRefusal.TheVariants as make
 use Rattle.station_commands.specs.Descriptors.{IsPoolOf, RefusesDescriptors, clause_of, descriptor_from, finds_full}
-use Rattle.station_commands.specs.Descriptors.{no_pool}
-use Rattle.station_commands.specs.Order.{IsInOrder, IsOutOfOrder, roster_in, schedule_given}
-use Rattle.station_commands.specs.Told.{by_pool, make_refused}
-use Rattle.station_commands.specs.Voting.{IsBasisOf, MakesNone, RefusesVote}
-use Rattle.station_commands.specs.declared.refusal.DescriptorWord.{DescriptorWord}
+use Rattle.station_commands.specs.{Descriptors.no_pool, Order.{IsInOrder, IsOutOfOrder, roster_in, schedule_given}}
+use Rattle.station_commands.specs.{Told.{by_pool, make_refused}, Voting.{IsBasisOf, MakesNone, RefusesVote}}
+use Rattle.station_commands.specs.declared.refusal.{DescriptorWord.DescriptorWord, MakeVoteRefusal.MakeVoteRefusal}
+use Rattle.station_commands.specs.{declared.refusal.{OrderWord.OrderWord, PoolRefusal.PoolRefusal}, Answerable.CanVote}
+use Rattle.station_commands.specs.Answerable.{HoldsAt, IsNotRefused, IsOfKeys, IsShort, SuchAreNotRefused}
+use Rattle.station_commands.proofs.{Answers.{not_both, one_value}, Chains.{goes_on, has_next, of_next, one_chain}}
+use Rattle.station_commands.proofs.{Chains.one_there, OneBasis.{one_basis, one_station, one_used}}
 use Rattle.station_commands.specs.declared.refusal.DescriptorWord.TheVariants as clause
-use Rattle.station_commands.specs.declared.refusal.MakeVoteRefusal.{MakeVoteRefusal}
-use Rattle.station_commands.specs.declared.refusal.OrderWord.{OrderWord}
 use Rattle.station_commands.specs.declared.refusal.OrderWord.TheVariants as word
-use Rattle.station_commands.specs.declared.refusal.PoolRefusal.{PoolRefusal}
 use Rattle.station_commands.specs.declared.refusal.PoolRefusal.TheVariants as refusal
-use Rattle.station_commands.specs.Answerable.{CanVote, HoldsAt, IsNotRefused, IsOfKeys, IsShort, SuchAreNotRefused}
-use Rattle.station_commands.proofs.Answers.{not_both, one_value}
-use Rattle.station_commands.proofs.Chains.{goes_on, has_next, of_next, one_chain, one_there}
-use Rattle.station_commands.proofs.OneBasis.{one_basis, one_station, one_used}
 
 -- ---- the station
 

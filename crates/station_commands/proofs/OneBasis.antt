@@ -3,14 +3,11 @@ use Rattle.std.proofs.Common.{◌≡◌, ℕ, List, Result, Ok, Err, sym, ap, �
 use Rattle.count_terms.specs.declared.newest.Newest.{Newest}
 use Rattle.frame_terms.specs.declared.fault.ReadRefusal.{ReadRefusal}
 use Rattle.key_port.specs.Answers.{Rules}
-use Rattle.station_input.specs.Reading.{station_of}
-use Rattle.station_input.specs.declared.facts.StationFacts.{StationFacts}
+use Rattle.station_input.specs.{Reading.station_of, declared.facts.StationFacts.StationFacts}
 use Rattle.vote_pool.specs.Pools.{Pooled}
-use Rattle.vote_schedule.specs.Moments.{IsNext}
-use Rattle.vote_schedule.specs.Schedules.{Schedule}
+use Rattle.vote_schedule.specs.{Moments.IsNext, Schedules.Schedule}
 use Rattle.vote_maker.specs.Made.{Basis, basis, schedule_in}
-use Rattle.station_commands.specs.Descriptors.{IsPoolOf, no_pool, pool_with}
-use Rattle.station_commands.specs.Voting.{IsBasisOf}
+use Rattle.station_commands.specs.{Descriptors.{IsPoolOf, no_pool, pool_with}, Voting.IsBasisOf}
 use Rattle.station_commands.proofs.Chains.{one_chain}
 
 -- the station that was read, and the place behind it

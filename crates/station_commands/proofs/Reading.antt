@@ -1,24 +1,19 @@
 -- What is read at a place of the input.
-use Rattle.std.proofs.Common.{◌≡◌, ℕ, ◌+◌, ◌<◌, ◌≤◌, List, length, drop, take, Ok, Err, refl, ap, sym, subst, ◌∙◌, arith}
-use Rattle.std.specs.Prelude.{◌-◌, ◌^◌}
-use Rattle.std.proofs.lemmas.List.{take_rest}
-use Rattle.std.proofs.lemmas.Grind.{common_steps}
+use Rattle.std.proofs.Common.{◌≡◌, ℕ, ◌+◌, ◌<◌, ◌≤◌, List, length, drop, take, Ok, Err, refl, ap, sym, subst, ◌∙◌}
+use Rattle.std.{proofs.{Common.arith, lemmas.{List.take_rest, Grind.common_steps}}, specs.Prelude.{◌-◌, ◌^◌}}
 use Rattle.count_terms.specs.declared.newest.Newest.{Newest}
 use Rattle.key_port.specs.Answers.{Rules}
 use Rattle.frame_terms.specs.declared.fault.ReadRefusal.{ReadRefusal}
 use Rattle.frame_terms.specs.declared.fault.ReadRefusal.TheVariants as read
-use Rattle.descriptor_doc.specs.Checks.{IsVerified, RefusedBy}
-use Rattle.descriptor_doc.specs.Reading.{ReadsUnder, descriptor_under}
+use Rattle.descriptor_doc.specs.{Checks.{IsVerified, RefusedBy}, Reading.{ReadsUnder, descriptor_under}}
 use Rattle.descriptor_doc.specs.declared.checking.DescriptorRefusal.{DescriptorRefusal}
+use Rattle.descriptor_doc.{specs.declared.descriptor.Descriptor.Descriptor, proofs.ReadUnder.own_fails}
 use Rattle.descriptor_doc.specs.declared.checking.DescriptorRefusal.TheVariants as descriptor
-use Rattle.descriptor_doc.specs.declared.descriptor.Descriptor.{Descriptor}
-use Rattle.descriptor_doc.proofs.ReadUnder.{own_fails}
 use Rattle.daemon_words.specs.declared.stop.Stop.TheVariants as stop
 use Rattle.station_laws.proofs.InputFaults.{descriptor_within}
 use Rattle.station_commands.specs.declared.refusal.PoolRefusal.TheVariants as refusal
 use Rattle.blank_lines.specs.Behind.{FitsBehind, refusal_behind}
-use Rattle.station_commands.specs.Descriptors.{descriptor_from, found_from}
-use Rattle.station_commands.specs.Reads.{IsVerifiedAt, ReadsAt, StopsAt}
+use Rattle.station_commands.specs.{Descriptors.{descriptor_from, found_from}, Reads.{IsVerifiedAt, ReadsAt, StopsAt}}
 use Rattle.station_commands.specs.Told.{descriptor_refused}
 
 -- the bytes from a place on

@@ -1,9 +1,8 @@
 -- The schedule that three numbers are.
-use Rattle.std.proofs.Common.{◌≡◌, Bool, true, false, Result, Ok, Err}
-use Rattle.std.specs.Prelude.{◌==◌, ◌+◌, ◌*◌, ◌%◌, nat_lt, nat_le, not, ◌||◌, if◌then◌else◌}
+use Rattle.std.{proofs.Common.{◌≡◌, Bool, true, false, Result, Ok, Err}, specs.Prelude.{◌==◌, ◌+◌, ◌*◌, ◌%◌, nat_lt}}
+use Rattle.std.specs.Prelude.{nat_le, not, ◌||◌, if◌then◌else◌}
 use Rattle.station_input.specs.declared.facts.StationFacts.{StationFacts}
-use Rattle.vote_schedule.specs.Schedules.{Schedule, day}
-use Rattle.vote_schedule.specs.declared.config.ScheduleFault.{ScheduleFault}
+use Rattle.vote_schedule.specs.{Schedules.{Schedule, day}, declared.config.ScheduleFault.ScheduleFault}
 use Rattle.vote_schedule.specs.declared.config.ScheduleFault.TheVariants.{Interval, ShortDelay, LongDelays, ShortLife}
 use Rattle.vote_maker.specs.Made.{schedule_in}
 use Rattle.station_commands.specs.Order.{schedule_given}

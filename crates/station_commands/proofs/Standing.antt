@@ -1,14 +1,11 @@
 -- Descriptors that stand one behind the other, and the pool that is made of them.
-use Rattle.std.proofs.Common.{◌≡◌, ℕ, ◌+◌, Bool, true, false, List, [], ◌∷◌, ◌++◌, length, Ok, refl, sym, ap, subst, ◌∙◌}
-use Rattle.std.proofs.Common.{arith}
+use Rattle.std.proofs.Common.{◌≡◌, ℕ, ◌+◌, Bool, true, false, List, [], ◌∷◌, ◌++◌, length, Ok, refl, sym, ap, subst}
+use Rattle.std.proofs.{Common.{◌∙◌, arith}, lemmas.{List.Elements.{All-append, All-cons, All-nil}, Grind.common_steps}}
 use Rattle.std.specs.Prelude.{◌||◌}
-use Rattle.std.proofs.lemmas.List.Elements.{All-append, All-cons, All-nil}
-use Rattle.std.proofs.lemmas.Grind.{common_steps}
 use Rattle.count_terms.specs.declared.newest.Newest.{Newest}
 use Rattle.blank_lines.specs.Ends.{ends_at}
 use Rattle.key_port.specs.Answers.{Rules}
-use Rattle.descriptor_doc.specs.Checks.{IsVerified}
-use Rattle.descriptor_doc.specs.declared.descriptor.Descriptor.{Descriptor}
+use Rattle.descriptor_doc.specs.{Checks.IsVerified, declared.descriptor.Descriptor.Descriptor}
 use Rattle.vote_pool.specs.Pools.{Pooled, pool_after}
 use Rattle.station_commands.specs.Descriptors.{Hold, Stand, descriptor_from, finds_full, is_full, no_pool, pool_with}
 

@@ -4,28 +4,23 @@ use Rattle.std.proofs.lemmas.List.{length-drop}
 use Rattle.count_terms.specs.declared.newest.Newest.{Newest}
 use Rattle.frame_terms.specs.declared.fault.ReadRefusal.{ReadRefusal}
 use Rattle.frame_terms.specs.declared.fault.ReadRefusal.TheVariants as read
-use Rattle.flag_rules.specs.Rules.{AreApart}
 use Rattle.bandwidth_file.specs.declared.file.BandFile.{BandFile}
-use Rattle.station_input.specs.Reading.{ReadsStation}
-use Rattle.station_input.specs.declared.facts.StationFacts.{StationFacts}
-use Rattle.station_laws.specs.Once.{RelaysAreNamedOnce}
+use Rattle.station_input.specs.{Reading.ReadsStation, declared.facts.StationFacts.StationFacts}
 use Rattle.blank_lines.specs.Behind.{FitsBehind}
 use Rattle.station_laws.proofs.InputFaults.{station_within}
-use Rattle.station_commands.specs.Private.{GivesStationBehind}
-use Rattle.station_commands.specs.WithFile.{told_from, told_station}
+use Rattle.station_commands.specs.{Private.GivesStationBehind, WithFile.{told_from, told_station}}
 
 -- what was read from a place on stands there
 pub stands_behind : (newest : Newest) (file : BandFile) (start : ℕ) (bytes rest : List ℕ) (given told : StationFacts)
     (used : ℕ)
-    → rest ≡ drop start bytes → start ≤ length bytes → RelaysAreNamedOnce → ReadsStation newest rest (Ok (given, used))
+    → rest ≡ drop start bytes → start ≤ length bytes → ReadsStation newest rest (Ok (given, used))
     → told ≡ told_station file given → GivesStationBehind newest file start bytes (Ok (told, start + used))
-stands_behind newest file start bytes rest given told used same within once read is =
+stands_behind newest file start bytes rest given told used same within read is =
     let here : ReadsStation newest (drop start bytes) (Ok (given, used)) =
     subst (λ (r : List ℕ). ReadsStation newest r (Ok (given, used))) same read in
     let long = length-drop start bytes in (
       ap (told_from file start) here.0 ∙ ap (λ (t : StationFacts). Ok (t, start + used)) (sym is),
       omega (arith, here.1, long, within),
-      subst (λ (t : StationFacts). AreApart t.rules) (sym is) (once newest (drop start bytes) given used here.0).rules,
     )
 
 -- its place in the input is a number of 64 bits

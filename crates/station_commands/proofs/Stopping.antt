@@ -1,39 +1,28 @@
 -- Why the command stops, from why a call below it did.
 use Rattle.std.proofs.Common.{◌≡◌, ℕ, ◌+◌, Bool, true, false, List, length, Result, Ok, Err, refl, sym, ap, subst, ◌∙◌}
-use Rattle.std.proofs.Common.{inl, inr, Option, Some, None}
-use Rattle.std.specs.Global.{Vec}
+use Rattle.std.{proofs.Common.{inl, inr, Option, Some, None}, specs.Global.Vec}
 use Rattle.count_terms.specs.declared.newest.Newest.{Newest}
 use Rattle.blank_lines.specs.Ends.{ends_at}
-use Rattle.key_port.specs.Answers.{Relation, Rules}
-use Rattle.key_port.specs.Signing.{SignerSteps}
+use Rattle.key_port.specs.{Answers.{Relation, Rules}, Signing.SignerSteps}
 use Rattle.authority_certs.specs.declared.checking.CertAnswer.{CertAnswer}
 use Rattle.frame_terms.specs.declared.fault.FrameFault.{FrameFault}
-use Rattle.daemon_words.specs.Stops.{Answered}
-use Rattle.daemon_words.specs.declared.stop.Stop.{Stop}
+use Rattle.daemon_words.specs.{Stops.Answered, declared.stop.Stop.Stop}
 use Rattle.daemon_words.specs.declared.stop.Stop.TheVariants as stop
-use Rattle.station_input.specs.Reading.{station_of}
-use Rattle.station_input.specs.declared.facts.StationFacts.{StationFacts}
+use Rattle.station_input.specs.{Reading.station_of, declared.facts.StationFacts.StationFacts}
 use Rattle.vote_pool.specs.Pools.{Pooled}
-use Rattle.vote_maker.specs.Made.{Basis, schedule_in}
-use Rattle.vote_maker.specs.declared.refusal.MakeRefusal.{MakeRefusal}
+use Rattle.vote_maker.specs.{Made.{Basis, schedule_in}, declared.refusal.MakeRefusal.MakeRefusal, Making.RefusesToMake}
 use Rattle.vote_maker.specs.declared.refusal.MakeRefusal.TheVariants as make
-use Rattle.vote_maker.specs.Making.{RefusesToMake}
-use Rattle.flag_rules.specs.Rules.{list_allows}
-use Rattle.flag_rules.specs.declared.operator.OperatorRule.{OperatorRule}
+use Rattle.flag_rules.specs.{Rules.list_allows, declared.operator.OperatorRule.OperatorRule}
 use Rattle.vote_schedule.specs.Moments.{AnswersNext}
-use Rattle.station_commands.specs.Descriptors.{FillsPool, GivesPool}
-use Rattle.station_commands.specs.Order.{GivesSchedule, IsInOrder}
-use Rattle.station_commands.specs.Reads.{StopsAt}
-use Rattle.station_commands.specs.Told.{by_end, by_word, cert_refused, cert_word, make_refused, of_fault, of_order, of_pool}
-use Rattle.station_commands.specs.Voting.{GivesStation, GivesVote, HasPool, IsBasisOf, IsBeforeSigner}
+use Rattle.station_commands.specs.{Descriptors.{FillsPool, GivesPool}, Order.{GivesSchedule, IsInOrder}, Reads.StopsAt}
+use Rattle.station_commands.specs.Told.{by_end, by_word, cert_refused, cert_word, make_refused, of_fault, of_order}
+use Rattle.station_commands.specs.{Told.of_pool, Voting.{GivesStation, GivesVote, HasPool, IsBasisOf, IsBeforeSigner}}
 use Rattle.station_commands.specs.Voting.{IsOfStation, MakeVoteAnswers, VoteAnswers}
-use Rattle.station_commands.specs.declared.refusal.CertWord.{CertWord}
-use Rattle.station_commands.specs.declared.refusal.MakeVoteRefusal.{MakeVoteRefusal}
-use Rattle.station_commands.specs.declared.refusal.MakeVoteRefusal.TheVariants as refusal
-use Rattle.station_commands.specs.declared.refusal.OrderWord.{OrderWord}
-use Rattle.station_commands.specs.declared.refusal.PoolRefusal.{PoolRefusal}
-use Rattle.station_commands.specs.declared.refusal.PoolRefusal.TheVariants as descriptors
+use Rattle.station_commands.specs.declared.refusal.{CertWord.CertWord, MakeVoteRefusal.MakeVoteRefusal}
+use Rattle.station_commands.specs.declared.refusal.{OrderWord.OrderWord, PoolRefusal.PoolRefusal}
 use Rattle.station_commands.proofs.Standing.{HaveBeenKept}
+use Rattle.station_commands.specs.declared.refusal.MakeVoteRefusal.TheVariants as refusal
+use Rattle.station_commands.specs.declared.refusal.PoolRefusal.TheVariants as descriptors
 
 -- ---- descriptors
 

@@ -1,11 +1,7 @@
 -- What is measured of a relay, where the relays of a file stand behind those that were measured.
 use Rattle.std.proofs.Common.{◌≡◌, ℕ, Bool, true, false, cond, List, [], ◌∷◌, Option, Some, refl, ap}
-use Rattle.std.specs.Prelude.{map, unwrap_or}
-use Rattle.std.specs.List.{find}
-use Rattle.std.specs.Option.{option_map}
-use Rattle.dir_values.proofs.Orders.{same_text}
-use Rattle.dir_values.specs.Digests.{same_identity}
-use Rattle.dir_values.specs.declared.digest.Fingerprint.{Fingerprint}
+use Rattle.std.specs.{Prelude.{map, unwrap_or}, List.find, Option.option_map}
+use Rattle.dir_values.{proofs.Orders.same_text, specs.{Digests.same_identity, declared.digest.Fingerprint.Fingerprint}}
 use Rattle.bandwidth_file.specs.Relays.{bandwidth_in}
 use Rattle.flag_rules.specs.declared.relay.Measured.{Measured}
 use Rattle.station_input.specs.declared.frame_said.MeasuredRelay.{MeasuredRelay}

@@ -1,32 +1,23 @@
 -- The vote that is made of what a station is given, call by call.
 use Rattle.std.proofs.Common.{◌≡◌, ℕ, ◌≤◌, List, Option, Some, Result, Ok, Err, refl, sym, subst}
-use Rattle.std.proofs.lemmas.Bool.{false≢true}
-use Rattle.std.specs.Global.{Vec}
-use Rattle.std.specs.Prelude.{IfErr}
+use Rattle.std.{proofs.lemmas.Bool.false≢true, specs.{Global.Vec, Prelude.IfErr}}
 use Rattle.dir_bytes.specs.Causes.{last_moment}
-use Rattle.key_port.specs.Answers.{Relation, Rules}
-use Rattle.key_port.specs.Signing.{SignerSteps}
+use Rattle.key_port.specs.{Answers.{Relation, Rules}, Signing.SignerSteps}
 use Rattle.authority_certs.specs.declared.checking.CertAnswer.TheVariants as answer
-use Rattle.flag_rules.specs.Rules.{RuleAlike, list_allows}
-use Rattle.flag_rules.specs.declared.operator.OperatorRule.{OperatorRule}
-use Rattle.daemon_words.specs.Stops.{Answered}
-use Rattle.daemon_words.specs.declared.stop.Stop.{Stop}
+use Rattle.flag_rules.specs.{Rules.{RuleAlike, list_allows}, declared.operator.OperatorRule.OperatorRule}
+use Rattle.daemon_words.specs.{Stops.Answered, declared.stop.Stop.Stop}
 use Rattle.daemon_words.specs.declared.stop.Stop.TheVariants as stop
 use Rattle.station_input.specs.declared.facts.StationFacts.{StationFacts}
 use Rattle.vote_pool.specs.Pools.{Pooled}
-use Rattle.vote_schedule.specs.Moments.{AnswersNext, valid_until}
-use Rattle.vote_schedule.specs.Schedules.{Schedule}
-use Rattle.vote_maker.specs.Made.{Basis, basis, schedule_in}
-use Rattle.vote_maker.specs.Making.{IsMade, RefusesToMake}
+use Rattle.vote_schedule.specs.{Moments.{AnswersNext, valid_until}, Schedules.Schedule}
+use Rattle.vote_maker.specs.{Made.{Basis, basis, schedule_in}, Making.{IsMade, RefusesToMake}}
 use Rattle.vote_maker.specs.declared.refusal.MakeRefusal.{MakeRefusal}
 use Rattle.vote_maker.specs.declared.refusal.MakeRefusal.TheVariants as make
-use Rattle.station_commands.specs.Order.{IsInOrder}
-use Rattle.station_commands.specs.Told.{make_refused}
-use Rattle.station_commands.specs.Voting.{GivesVote, HasPool, IsBasisOf, IsBeforeSigner, IsOfStation}
-use Rattle.station_commands.specs.declared.refusal.MakeVoteRefusal.{MakeVoteRefusal}
-use Rattle.station_commands.specs.declared.refusal.MakeVoteRefusal.TheVariants as refusal
-use Rattle.station_commands.proofs.Schedules.{schedule_is}
+use Rattle.station_commands.specs.{Order.IsInOrder, Told.make_refused, Voting.{GivesVote, HasPool, IsBasisOf}}
+use Rattle.station_commands.specs.Voting.{IsBeforeSigner, IsOfStation}
+use Rattle.station_commands.{specs.declared.refusal.MakeVoteRefusal.MakeVoteRefusal, proofs.Schedules.schedule_is}
 use Rattle.station_commands.proofs.Stopping.{Ends, no_vote, unsigned, vote_not_of_station}
+use Rattle.station_commands.specs.declared.refusal.MakeVoteRefusal.TheVariants as refusal
 
 -- ---- one vote
 

@@ -1,27 +1,21 @@
 -- The inputs that `make-vote` has to answer with a vote.
 use Rattle.std.specs.Prelude.{◌≡◌, ◌⊎◌, ℕ, ◌≤◌, false, List, length, All, Ok, Err}
-use Rattle.key_port.specs.Answers.{Relation, Rules}
-use Rattle.key_port.specs.Signing.{SignerSteps, signature_limit}
-use Rattle.authority_certs.specs.Checks.{IsCertified, certifies, crosscertifies}
-use Rattle.authority_certs.specs.declared.cert.Cert.{Cert}
-use Rattle.descriptor_doc.specs.Checks.{is_ed_refused, signs}
-use Rattle.descriptor_doc.specs.Families.{are_families_refused}
+use Rattle.key_port.specs.{Answers.{Relation, Rules}, Signing.{SignerSteps, signature_limit}}
+use Rattle.authority_certs.specs.{Checks.{IsCertified, certifies, crosscertifies}, declared.cert.Cert.Cert}
+use Rattle.descriptor_doc.specs.{Checks.{is_ed_refused, signs}, Families.are_families_refused}
 use Rattle.descriptor_doc.specs.declared.descriptor.Descriptor.{Descriptor}
 use Rattle.count_terms.specs.declared.newest.Newest.{Newest}
-use Rattle.flag_rules.specs.Rules.{AreAllowed, list_allows}
-use Rattle.flag_rules.specs.declared.ruling.Ruling.{Ruling}
+use Rattle.flag_rules.specs.{Rules.{AreAllowed, list_allows}, declared.ruling.Ruling.Ruling}
 use Rattle.vote_text.specs.Made.{made_text}
-use Rattle.station_input.specs.Reading.{station_of}
-use Rattle.station_input.specs.declared.facts.StationFacts.{StationFacts}
+use Rattle.station_input.specs.{Reading.station_of, declared.facts.StationFacts.StationFacts}
 use Rattle.vote_maker.specs.Made.{Basis, made, relays_in, with_signature}
 use Rattle.vote_terms.specs.Votes.{max_vote}
 use Rattle.station_commands.specs.Voting.{IsBasisOf, MakeVoteAnswers}
 use Rattle.station_commands.specs.declared.refusal.MakeVoteRefusal.{MakeVoteRefusal}
+use Rattle.station_commands.specs.{declared.file_refusal.FileVoteRefusal.FileVoteRefusal, FileTold.by_vote}
+use Rattle.station_commands.specs.WithFile.{BeginsWithFile, FileVoteAnswers, station_behind}
 use Rattle.station_commands.specs.declared.refusal.MakeVoteRefusal.TheVariants as refusal
 use Rattle.bandwidth_file.specs.declared.file.BandFile.{BandFile}
-use Rattle.station_commands.specs.FileTold.{by_vote}
-use Rattle.station_commands.specs.WithFile.{BeginsWithFile, FileVoteAnswers, station_behind}
-use Rattle.station_commands.specs.declared.file_refusal.FileVoteRefusal.{FileVoteRefusal}
 
 -- No signature of the descriptor may be refused, and its Ed25519 certificate, if it has one, has not expired; nor may one of
 -- its families be refused.

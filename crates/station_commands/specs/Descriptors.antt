@@ -1,26 +1,20 @@
 -- The descriptors behind what a station is given, checked and kept one by one.
-use Rattle.std.specs.Prelude.{◌≡◌, ℕ, ◌+◌, Bool, true, false, ◌||◌, List, [], ◌∷◌, length, drop, All}
+use Rattle.std.specs.Prelude.{◌≡◌, ℕ, ◌+◌, Bool, true, false, ◌||◌, List, [], ◌∷◌, length, drop, All, Result, Ok, Err}
 use Rattle.count_terms.specs.declared.newest.Newest.{Newest}
-use Rattle.blank_lines.specs.Behind.{refusal_behind}
-use Rattle.std.specs.Prelude.{Result, Ok, Err}
-use Rattle.blank_lines.specs.Ends.{ends_at}
-use Rattle.frame_terms.specs.declared.fault.FrameFault.{FrameFault}
-use Rattle.frame_terms.specs.declared.fault.ReadRefusal.{ReadRefusal}
+use Rattle.blank_lines.specs.{Behind.refusal_behind, Ends.ends_at}
+use Rattle.frame_terms.specs.declared.fault.{FrameFault.FrameFault, ReadRefusal.ReadRefusal}
 use Rattle.frame_terms.specs.declared.fault.ReadRefusal.TheVariants as read
 use Rattle.key_port.specs.Answers.{Rules}
-use Rattle.descriptor_doc.specs.Checks.{IsVerified, RefusedBy}
-use Rattle.descriptor_doc.specs.Reading.{descriptor_under}
+use Rattle.descriptor_doc.specs.{Checks.{IsVerified, RefusedBy}, Reading.descriptor_under}
 use Rattle.descriptor_doc.specs.declared.checking.DescriptorRefusal.{DescriptorRefusal}
-use Rattle.descriptor_doc.specs.declared.checking.DescriptorRefusal.TheVariants as descriptor
 use Rattle.descriptor_doc.specs.declared.descriptor.Descriptor.{Descriptor}
-use Rattle.vote_pool.specs.Pools.{Pooled, answer_to, pool_after}
-use Rattle.vote_pool.specs.declared.answers.Keep.{Keep}
+use Rattle.descriptor_doc.specs.declared.checking.DescriptorRefusal.TheVariants as descriptor
+use Rattle.vote_pool.specs.{Pools.{Pooled, answer_to, pool_after}, declared.answers.Keep.Keep}
 use Rattle.vote_pool.specs.declared.answers.Keep.TheVariants as keep
 use Rattle.daemon_words.specs.declared.stop.Stop.{Stop}
 use Rattle.daemon_words.specs.declared.stop.Stop.TheVariants as stop
-use Rattle.station_commands.specs.declared.refusal.DescriptorWord.{DescriptorWord}
+use Rattle.station_commands.specs.declared.refusal.{DescriptorWord.DescriptorWord, PoolRefusal.PoolRefusal}
 use Rattle.station_commands.specs.declared.refusal.DescriptorWord.TheVariants as fails
-use Rattle.station_commands.specs.declared.refusal.PoolRefusal.{PoolRefusal}
 use Rattle.station_commands.specs.declared.refusal.PoolRefusal.TheVariants as refusal
 
 -- ---- a descriptor in the input

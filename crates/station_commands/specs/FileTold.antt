@@ -1,7 +1,6 @@
 -- How a refusal of a call is told as the command's.
 use Rattle.frame_terms.specs.declared.fault.FrameFault.{FrameFault}
-use Rattle.daemon_words.specs.Stops.{told_as}
-use Rattle.daemon_words.specs.declared.stop.Stop.{Stop}
+use Rattle.daemon_words.specs.{Stops.told_as, declared.stop.Stop.Stop}
 use Rattle.station_commands.specs.Told as station
 use Rattle.station_commands.specs.declared.refusal.MakeVoteRefusal.{MakeVoteRefusal}
 use Rattle.station_commands.specs.declared.file_refusal.BandwidthRefusal.{BandwidthRefusal}
@@ -26,5 +25,6 @@ of_vote given = told_as by_vote given
 abbrev pub by_fault : FrameFault → FileVoteRefusal
 by_fault fault = refusal.Vote (station.by_fault fault)
 
+-- the stop of a reading of what a station is given, as the command is told it
 abbrev pub of_fault : Stop FrameFault → Stop FileVoteRefusal
 of_fault given = told_as by_fault given

@@ -1,16 +1,13 @@
 -- Whether what a station is given is in order: its roster, its schedule, and its own authority among the others.
 use Rattle.std.specs.Prelude.{◌≡◌, true, false, List, map, Result, Ok, Err}
-use Rattle.dir_values.specs.Rosters.{has_member, roster_of}
-use Rattle.dir_values.specs.declared.digest.Fingerprint.{Fingerprint}
+use Rattle.dir_values.specs.{Rosters.{has_member, roster_of}, declared.digest.Fingerprint.Fingerprint}
 use Rattle.dir_values.specs.declared.roster.RosterFault.{RosterFault}
 use Rattle.daemon_words.specs.declared.stop.Stop.{Stop}
 use Rattle.daemon_words.specs.declared.stop.Stop.TheVariants as stop
 use Rattle.station_commands.specs.declared.refusal.OrderWord.{OrderWord}
 use Rattle.station_commands.specs.declared.refusal.OrderWord.TheVariants as word
-use Rattle.station_input.specs.declared.facts.Peer.{Peer}
-use Rattle.station_input.specs.declared.facts.StationFacts.{StationFacts}
-use Rattle.vote_schedule.specs.Schedules.{Schedule, schedule_of}
-use Rattle.vote_schedule.specs.declared.config.ScheduleFault.{ScheduleFault}
+use Rattle.station_input.specs.declared.facts.{Peer.Peer, StationFacts.StationFacts}
+use Rattle.vote_schedule.specs.{Schedules.{Schedule, schedule_of}, declared.config.ScheduleFault.ScheduleFault}
 
 -- the identities of authorities
 abbrev pub identities_of : List Peer → List Fingerprint

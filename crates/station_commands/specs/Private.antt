@@ -1,14 +1,10 @@
 -- What the calls say that the command is made of.
 use Rattle.std.specs.Prelude.{◌≡◌, ℕ, ◌≤◌, List, length, Some, Result, Ok, Err}
-use Rattle.bandwidth_file.specs.declared.file.BandFile.{BandFile}
+use Rattle.bandwidth_file.specs.declared.{file.BandFile.BandFile, front.Front.Front, refusal.BandFault.BandFault}
 use Rattle.bandwidth_file.specs.Fronts.{IsFront, front_fault}
-use Rattle.bandwidth_file.specs.declared.front.Front.{Front}
 use Rattle.count_terms.specs.declared.newest.Newest.{Newest}
-use Rattle.flag_rules.specs.Rules.{AreApart}
-use Rattle.frame_terms.specs.declared.fault.ReadRefusal.{ReadRefusal}
+use Rattle.frame_terms.specs.declared.fault.{ReadRefusal.ReadRefusal, FrameFault.FrameFault}
 use Rattle.frame_terms.specs.declared.fault.ReadRefusal.TheVariants as read
-use Rattle.bandwidth_file.specs.declared.refusal.BandFault.{BandFault}
-use Rattle.frame_terms.specs.declared.fault.FrameFault.{FrameFault}
 use Rattle.daemon_words.specs.declared.stop.Stop.{Stop}
 use Rattle.daemon_words.specs.declared.stop.Stop.TheVariants as stop
 use Rattle.station_input.specs.declared.facts.StationFacts.{StationFacts}
@@ -41,10 +37,9 @@ station_fault read.Memory = stop.Memory
 abbrev pub fault_behind : ℕ → ReadRefusal → Stop FrameFault
 fault_behind start refused = station_fault (refusal_behind start refused)
 
--- what a station is given behind the file, and the place behind it, with rules of which no two are of one relay; or its fault,
--- or there was no memory
+-- what a station is given behind the file, and the place behind it; or its fault, or there was no memory
 abbrev pub GivesStationBehind : Newest → BandFile → ℕ → List ℕ → Result (StationFacts × ℕ) (Stop FrameFault) → Type 0
 GivesStationBehind newest file start bytes (Ok (given, used)) =
-    (station_behind newest file start bytes ≡ Ok (given, used)) × (used ≤ length bytes) × AreApart given.rules
+    (station_behind newest file start bytes ≡ Ok (given, used)) × (used ≤ length bytes)
 GivesStationBehind newest file start bytes (Err stop.Memory) = Unit {0}
 GivesStationBehind newest file start bytes (Err (stop.Refused fault)) = IsFaultyBehind newest file start bytes fault

@@ -1,18 +1,15 @@
 -- What the functions say that read and check one descriptor.
 use Rattle.std.specs.Prelude.{◌≡◌, ℕ, ◌≤◌, ◌<◌, List, length, Result, Ok, Err}
 use Rattle.count_terms.specs.declared.newest.Newest.{Newest}
-use Rattle.frame_terms.specs.Refusals.{Fails}
-use Rattle.frame_terms.specs.declared.fault.ReadRefusal.{ReadRefusal}
+use Rattle.frame_terms.specs.{Refusals.Fails, declared.fault.ReadRefusal.ReadRefusal}
 use Rattle.frame_terms.specs.declared.fault.ReadRefusal.TheVariants as read
 use Rattle.key_port.specs.Answers.{Rules}
-use Rattle.descriptor_doc.specs.Checks.{IsVerified, RefusedBy}
-use Rattle.descriptor_doc.specs.declared.checking.DescriptorRefusal.{DescriptorRefusal}
-use Rattle.descriptor_doc.specs.declared.checking.DescriptorRefusal.TheVariants as descriptor
+use Rattle.descriptor_doc.specs.{Checks.{IsVerified, RefusedBy}, declared.checking.DescriptorRefusal.DescriptorRefusal}
 use Rattle.descriptor_doc.specs.declared.descriptor.Descriptor.{Descriptor}
+use Rattle.descriptor_doc.specs.declared.checking.DescriptorRefusal.TheVariants as descriptor
 use Rattle.daemon_words.specs.declared.stop.Stop.{Stop}
 use Rattle.daemon_words.specs.declared.stop.Stop.TheVariants as stop
-use Rattle.station_commands.specs.Descriptors.{clause_of, descriptor_from}
-use Rattle.station_commands.specs.declared.refusal.PoolRefusal.{PoolRefusal}
+use Rattle.station_commands.specs.{Descriptors.{clause_of, descriptor_from}, declared.refusal.PoolRefusal.PoolRefusal}
 use Rattle.station_commands.specs.declared.refusal.PoolRefusal.TheVariants as refusal
 
 -- what reading from a place on answers: the descriptor that stands there, which ends behind the place and within the input; or

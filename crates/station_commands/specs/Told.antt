@@ -5,20 +5,17 @@ use Rattle.authority_certs.specs.declared.checking.CertAnswer.TheVariants as ans
 use Rattle.descriptor_doc.specs.declared.checking.DescriptorRefusal.{DescriptorRefusal}
 use Rattle.descriptor_doc.specs.declared.checking.DescriptorRefusal.TheVariants as descriptor
 use Rattle.frame_terms.specs.declared.fault.FrameFault.{FrameFault}
-use Rattle.daemon_words.specs.Stops.{told_as}
-use Rattle.daemon_words.specs.declared.stop.Stop.{Stop}
+use Rattle.daemon_words.specs.{Stops.told_as, declared.stop.Stop.Stop}
 use Rattle.daemon_words.specs.declared.stop.Stop.TheVariants as stop
 use Rattle.vote_maker.specs.declared.refusal.MakeRefusal.{MakeRefusal}
 use Rattle.vote_maker.specs.declared.refusal.MakeRefusal.TheVariants as make
-use Rattle.station_commands.specs.declared.refusal.CertWord.{CertWord}
+use Rattle.station_commands.specs.declared.refusal.{CertWord.CertWord, MakeVoteRefusal.MakeVoteRefusal}
+use Rattle.station_commands.specs.declared.refusal.{OrderWord.OrderWord, PoolRefusal.PoolRefusal}
+use Rattle.station_commands.specs.declared.refusal.StationRefusal.{StationRefusal}
 use Rattle.station_commands.specs.declared.refusal.CertWord.TheVariants as cert
 use Rattle.station_commands.specs.declared.refusal.DescriptorWord.TheVariants as word
-use Rattle.station_commands.specs.declared.refusal.MakeVoteRefusal.{MakeVoteRefusal}
 use Rattle.station_commands.specs.declared.refusal.MakeVoteRefusal.TheVariants as refusal
-use Rattle.station_commands.specs.declared.refusal.OrderWord.{OrderWord}
-use Rattle.station_commands.specs.declared.refusal.PoolRefusal.{PoolRefusal}
 use Rattle.station_commands.specs.declared.refusal.PoolRefusal.TheVariants as pool
-use Rattle.station_commands.specs.declared.refusal.StationRefusal.{StationRefusal}
 use Rattle.station_commands.specs.declared.refusal.StationRefusal.TheVariants as station
 
 -- that the station can make no vote
@@ -29,6 +26,7 @@ station_stop why = stop.Refused (refusal.Station why)
 abbrev pub by_fault : FrameFault → MakeVoteRefusal
 by_fault fault = refusal.Station (station.Fault fault)
 
+-- the stop of a reading of what a station is given, as the command is told it
 abbrev pub of_fault : Stop FrameFault → Stop MakeVoteRefusal
 of_fault given = told_as by_fault given
 

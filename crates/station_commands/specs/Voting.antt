@@ -1,31 +1,23 @@
 -- The vote that is made of what a station is given, or why there is none.
-use Rattle.std.specs.Prelude.{◌≡◌, ◌⊎◌, ℕ, ◌≤◌, List, length, None, Result, Ok, Err}
-use Rattle.std.specs.Global.{Vec}
+use Rattle.std.specs.{Prelude.{◌≡◌, ◌⊎◌, ℕ, ◌≤◌, List, length, None, Result, Ok, Err}, Global.Vec}
 use Rattle.dir_bytes.specs.Causes.{last_moment}
-use Rattle.key_port.specs.Answers.{Relation, Rules}
-use Rattle.key_port.specs.Signing.{SignerSteps}
-use Rattle.flag_rules.specs.Rules.{RuleAlike, list_allows}
-use Rattle.flag_rules.specs.declared.operator.OperatorRule.{OperatorRule}
+use Rattle.key_port.specs.{Answers.{Relation, Rules}, Signing.SignerSteps}
+use Rattle.flag_rules.specs.{Rules.{RuleAlike, list_allows}, declared.operator.OperatorRule.OperatorRule}
 use Rattle.count_terms.specs.declared.newest.Newest.{Newest}
 use Rattle.frame_terms.specs.declared.fault.ReadRefusal.TheVariants as read
 use Rattle.frame_terms.specs.declared.fault.FrameFault.{FrameFault}
 use Rattle.daemon_words.specs.declared.stop.Stop.{Stop}
 use Rattle.daemon_words.specs.declared.stop.Stop.TheVariants as stop
-use Rattle.station_input.specs.Reading.{station_of}
-use Rattle.station_input.specs.declared.facts.StationFacts.{StationFacts}
+use Rattle.station_input.specs.{Reading.station_of, declared.facts.StationFacts.StationFacts}
 use Rattle.vote_pool.specs.Pools.{Pooled}
 use Rattle.vote_schedule.specs.Moments.{AnswersNext, IsNext, valid_until}
-use Rattle.vote_maker.specs.Made.{Basis, schedule_in}
-use Rattle.vote_maker.specs.Making.{IsMade, RefusesToMake}
+use Rattle.vote_maker.specs.{Made.{Basis, schedule_in}, Making.{IsMade, RefusesToMake}}
 use Rattle.vote_maker.specs.declared.refusal.MakeRefusal.{MakeRefusal}
-use Rattle.station_commands.specs.Descriptors.{IsPoolOf, RefusesDescriptors}
-use Rattle.station_commands.specs.Order.{IsInOrder, IsOutOfOrder}
+use Rattle.station_commands.specs.{Descriptors.{IsPoolOf, RefusesDescriptors}, Order.{IsInOrder, IsOutOfOrder}}
 use Rattle.station_commands.specs.Told.{by_end, by_fault, by_order, by_pool, make_refused}
-use Rattle.station_commands.specs.declared.refusal.MakeVoteRefusal.{MakeVoteRefusal}
+use Rattle.station_commands.specs.declared.refusal.{MakeVoteRefusal.MakeVoteRefusal, OrderWord.OrderWord}
+use Rattle.station_commands.specs.declared.refusal.{PoolRefusal.PoolRefusal, StationRefusal.StationRefusal}
 use Rattle.station_commands.specs.declared.refusal.MakeVoteRefusal.TheVariants as refusal
-use Rattle.station_commands.specs.declared.refusal.OrderWord.{OrderWord}
-use Rattle.station_commands.specs.declared.refusal.PoolRefusal.{PoolRefusal}
-use Rattle.station_commands.specs.declared.refusal.StationRefusal.{StationRefusal}
 use Rattle.station_commands.specs.declared.refusal.StationRefusal.TheVariants as station
 
 -- ---- of what the vote is made

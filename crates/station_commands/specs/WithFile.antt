@@ -1,27 +1,19 @@
 -- The vote that is made with a bandwidth file ("Bandwidth File Format") in front of what a station is given.
 use Rattle.std.specs.Prelude.{◌≡◌, ◌⊎◌, ℕ, ◌+◌, List, drop, Some, Result, Ok, Err}
-use Rattle.key_port.specs.Answers.{Relation, Rules}
-use Rattle.key_port.specs.Signing.{SignerSteps}
-use Rattle.bandwidth_file.specs.Ages.{IsOld}
-use Rattle.bandwidth_file.specs.declared.file.BandFile.{BandFile}
-use Rattle.bandwidth_file.specs.Fronts.{IsFront, front_fault}
+use Rattle.key_port.specs.{Answers.{Relation, Rules}, Signing.SignerSteps}
+use Rattle.bandwidth_file.specs.{Ages.IsOld, declared.file.BandFile.BandFile, Fronts.{IsFront, front_fault}}
 use Rattle.count_terms.specs.declared.newest.Newest.{Newest}
-use Rattle.frame_terms.specs.declared.fault.ReadRefusal.{ReadRefusal}
+use Rattle.frame_terms.specs.declared.fault.{ReadRefusal.ReadRefusal, FrameFault.FrameFault}
 use Rattle.frame_terms.specs.declared.fault.ReadRefusal.TheVariants as read
-use Rattle.frame_terms.specs.declared.fault.FrameFault.{FrameFault}
-use Rattle.daemon_words.specs.Stops.{AnsweredAs}
-use Rattle.daemon_words.specs.declared.stop.Stop.{Stop}
+use Rattle.daemon_words.specs.{Stops.AnsweredAs, declared.stop.Stop.Stop}
 use Rattle.daemon_words.specs.declared.stop.Stop.TheVariants as stop
-use Rattle.station_commands.specs.MeasuredTold.{told_relays}
-use Rattle.station_input.specs.Reading.{station_of}
-use Rattle.station_input.specs.declared.facts.StationFacts.{StationFacts}
+use Rattle.station_commands.specs.{MeasuredTold.told_relays, Voting.VoteAnswers, FileTold.{by_fault, by_file, by_vote}}
+use Rattle.station_commands.specs.declared.file_refusal.BandwidthRefusal.{BandwidthRefusal}
+use Rattle.station_commands.specs.declared.file_refusal.FileVoteRefusal.{FileVoteRefusal}
+use Rattle.station_input.specs.{Reading.station_of, declared.facts.StationFacts.StationFacts}
 use Rattle.blank_lines.specs.Behind.{refusal_behind}
 use Rattle.station_commands.specs.Voting as station
-use Rattle.station_commands.specs.Voting.{VoteAnswers}
-use Rattle.station_commands.specs.FileTold.{by_fault, by_file, by_vote}
-use Rattle.station_commands.specs.declared.file_refusal.BandwidthRefusal.{BandwidthRefusal}
 use Rattle.station_commands.specs.declared.file_refusal.BandwidthRefusal.TheVariants as bandwidth
-use Rattle.station_commands.specs.declared.file_refusal.FileVoteRefusal.{FileVoteRefusal}
 use Rattle.station_commands.specs.declared.file_refusal.FileVoteRefusal.TheVariants as refusal
 
 -- ---- the file

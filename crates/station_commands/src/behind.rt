@@ -12,7 +12,6 @@ use daemon_words::Stop;
 use dir_bytes::{Memory, Seq};
 use frame_terms::{FrameFault, ReadRefusal};
 use station_input::{StationFacts, read_station};
-use station_laws::relays_are_named_once;
 use std::alloc::Global;
 
 /// What a station is given, where a file tells the bandwidths of relays.
@@ -50,7 +49,6 @@ pub fn station_behind(
     requires within { front.now.used ≤ length bytes.now }
     ensures { its.GivesStationBehind newest front.now.file front.now.used bytes.now result }
 {
-    relays_are_named_once();
     match read_station(alloc, newest, &bytes[front.used..]) {
         Ok((station, used)) => Ok((told(alloc, station, &front.file)?, front.used + used)),
         Err(refusal) => Err(fault_behind(front.used, refusal)),

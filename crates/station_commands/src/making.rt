@@ -2,10 +2,8 @@
 ghost use Rattle.std.specs.Prelude.{◌≡◌, ◌≤◌, ◌<◌, ◌^◌, Err, IfErr, length};
 ghost use Rattle.dir_bytes.specs.Causes.{Counts, Rose};
 ghost use Rattle.key_port.specs.Answers.{rules};
-ghost use Rattle.flag_rules.specs.Rules.{AreApart};
 ghost use Rattle.daemon_words.specs.Stops.{Answered};
-ghost use Rattle.vote_schedule.specs.Moments.{AnswersNext};
-ghost use Rattle.vote_schedule.specs.Schedules.{IsSchedule};
+ghost use Rattle.vote_schedule.specs.{Moments.AnswersNext, Schedules.IsSchedule};
 ghost use Rattle.station_commands.specs.Voting as voting;
 
 use crate::descriptors::pool_of;
@@ -20,7 +18,6 @@ use dir_bytes::Clock;
 use frame_terms::{FrameFault, ReadRefusal};
 use key_port::{Signer, Verifier};
 use station_input::{StationFacts, read_station};
-use station_laws::relays_are_named_once;
 use std::alloc::Global;
 use vote_schedule::{Config, next_valid_after};
 
@@ -69,7 +66,6 @@ pub fn vote_from<V: Verifier, N: Signer>(
 ) -> Result<Vec<u8>, Stop<MakeVoteRefusal>>
     requires short { length bytes.now < 2 ^ 61 }
     requires within { used ≤ length bytes.now }
-    requires apart { AreApart station.now.rules }
     ensures answer { Answered (λ answer. voting.VoteAnswers (rules V.may_accept V.may_refuse) N.may_give N.steps now station.now used bytes.now answer signer.old signer.new) result }
     ensures verifier_fault { result ≡ Err (Stop.Refused MakeVoteRefusal.Verifier) → Rose (V.faults verifier.old) (V.faults verifier.new) }
     ensures verifier_told { V.faults verifier.old < V.faults verifier.new → result ≡ Err (Stop.Refused MakeVoteRefusal.Verifier) }
@@ -118,7 +114,6 @@ pub fn make_vote<C: Clock, V: Verifier, N: Signer>(
     ensures unasked { IfErr result (λ why. voting.IsOfStation why → verifier.new ≡ verifier.old) }
     ensures unsigned { IfErr result (λ why. voting.IsBeforeSigner why → signer.new ≡ signer.old) }
 {
-    relays_are_named_once();
     let now = clock.now();
     let (station, used) = match station_of(alloc, newest, bytes) {
         Ok((station, used)) => (station, used),

@@ -2,10 +2,9 @@
 ghost use Rattle.std.specs.Prelude.{◌≡◌, ◌≤◌, ◌<◌, Err};
 ghost use Rattle.dir_bytes.specs.Causes.{Rose, last_moment};
 ghost use Rattle.key_port.specs.Answers.{rules};
-ghost use Rattle.flag_rules.specs.Rules.{AreApart, ruling_for};
+ghost use Rattle.flag_rules.specs.Rules.{ruling_for};
 ghost use Rattle.vote_maker.specs.Made.{basis, schedule_in};
-ghost use Rattle.vote_schedule.specs.Moments.{valid_until};
-ghost use Rattle.vote_schedule.specs.Schedules.{IsSchedule};
+ghost use Rattle.vote_schedule.specs.{Moments.valid_until, Schedules.IsSchedule};
 ghost use Rattle.station_commands.specs.Voting.{GivesVote};
 
 use crate::refusal::MakeVoteRefusal;
@@ -34,7 +33,6 @@ pub fn vote_of<V: Verifier, N: Signer>(
 ) -> Result<Vec<u8>, Stop<MakeVoteRefusal>>
     requires schedule { IsSchedule (schedule_in station.now) }
     requires moments { valid_until (schedule_in station.now) valid_after ≤ last_moment }
-    requires apart { AreApart station.now.rules }
     ensures gives { GivesVote (rules V.may_accept V.may_refuse) N.may_give N.steps (basis station.now pool.now.descriptors valid_after now) result signer.old signer.new }
     ensures verifier_fault { result ≡ Err (Stop.Refused MakeVoteRefusal.Verifier) → Rose (V.faults verifier.old) (V.faults verifier.new) }
     ensures verifier_told { V.faults verifier.old < V.faults verifier.new → result ≡ Err (Stop.Refused MakeVoteRefusal.Verifier) }
@@ -42,7 +40,7 @@ pub fn vote_of<V: Verifier, N: Signer>(
     ensures signer_fault { result ≡ Err (Stop.Refused MakeVoteRefusal.Signer) → Rose (N.faults signer.old) (N.faults signer.new) }
     ensures signer_told { N.faults signer.old < N.faults signer.new → result ≡ Err (Stop.Refused MakeVoteRefusal.Signer) }
 {
-    let list = OperatorList::new(station.rules.as_slice().to_vec(alloc)?);
+    let list = OperatorList::new(station.rules.as_slice().to_vec(alloc)?)?;
     let by_list = |facts: RelayFacts| -> Ruling
         ensures { result ≡ ruling_for list facts.identity }
     { list.ruling(&facts) };

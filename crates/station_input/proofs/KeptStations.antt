@@ -2,14 +2,10 @@
 use Rattle.std.proofs.Common.{◌≡◌, ℕ, List, length, Ok, Result, sym, ap, ◌∙◌}
 use Rattle.count_terms.specs.declared.newest.Newest.{Newest}
 use Rattle.item_terms.specs.Items.{Contents, items_of}
-use Rattle.frame_terms.specs.declared.fault.ReadRefusal.{ReadRefusal}
-use Rattle.frame_terms.specs.Documents.{document_of, finish}
-use Rattle.station_input.specs.Tables.{station_tables}
-use Rattle.station_input.specs.declared.facts.StationFacts.{StationFacts}
-use Rattle.station_input.specs.declared.kept.Kept.{Kept}
-use Rattle.station_input.specs.Facts.{facts_of}
-use Rattle.station_input.specs.Kept.{kept_with, none_kept}
-use Rattle.station_input.specs.Reading.{max_station, station_of, with_facts}
+use Rattle.frame_terms.specs.{declared.fault.ReadRefusal.ReadRefusal, Documents.{document_of, finish}}
+use Rattle.station_input.specs.{Tables.station_tables, declared.{facts.StationFacts.StationFacts, kept.Kept.Kept}}
+use Rattle.station_input.specs.{Facts.facts_of, Kept.{kept_with, none_kept}, Reading.{max_station, station_of}}
+use Rattle.station_input.specs.Reading.{with_facts}
 
 abbrev kept_of : Kept → Contents → List ℕ → Result (Kept × ℕ) ReadRefusal
 kept_of before items bytes = finish kept_with before (document_of station_tables (length bytes) items)

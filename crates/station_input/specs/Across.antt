@@ -5,9 +5,8 @@ use Rattle.std.specs.FinSet as set
 use Rattle.frame_terms.specs.declared.fault.FrameFault.{FrameFault}
 use Rattle.frame_values.specs.declared.values.Value.{Value}
 use Rattle.frame_values.specs.declared.values.Value.TheVariants as value
-use Rattle.station_input.specs.declared.across.Across.{Across}
-use Rattle.station_input.specs.declared.frame_said.StationValue.{StationValue}
-use Rattle.station_input.specs.declared.frame_said.StationValue.TheVariants.{Rule, Measured}
+use Rattle.station_input.specs.declared.{across.Across.Across, frame_said.StationValue.{StationValue, TheVariants.Rule}}
+use Rattle.station_input.specs.declared.frame_said.StationValue.TheVariants.{Measured}
 
 -- nothing yet
 abbrev pub nothing_across : Across

@@ -4,9 +4,7 @@ use Rattle.frame_values.specs.Parts.{part}
 use Rattle.authority_certs.specs.Certs.{cert_in}
 pub use Rattle.authority_certs.specs.Certs.{whole_part}
 use Rattle.count_terms.specs.declared.newest.Newest.{Newest}
-use Rattle.station_input.specs.declared.frame_said.MemberLine.{MemberLine}
-use Rattle.station_input.specs.declared.facts.Peer.{Peer}
-use Rattle.station_input.specs.declared.facts.StationFacts.{StationFacts}
+use Rattle.station_input.specs.declared.{frame_said.MemberLine.MemberLine, facts.{Peer.Peer, StationFacts.StationFacts}}
 use Rattle.station_input.specs.declared.kept.Kept.{Kept}
 use Rattle.vote_terms.specs.ListLines.{vote_lists}
 

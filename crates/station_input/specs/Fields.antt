@@ -1,20 +1,13 @@
 -- What single arguments of a station input say.
-use Rattle.std.specs.Prelude.{ℕ, ◌==◌, Bool, ◌&&◌, List, is_some, Option, Some, None, codes, if◌then◌else◌, option_and_then}
-use Rattle.std.specs.Cmp.Lexicographic.{slice_cmp}
+use Rattle.std.specs.Prelude.{ℕ, ◌==◌, Bool, ◌&&◌, List, is_some, Option, Some, None, codes, if◌then◌else◌}
+use Rattle.std.specs.{Prelude.option_and_then, Cmp.Lexicographic.slice_cmp, List.{before_first, after_first}}
+use Rattle.std.specs.{Option.option_map, Ordering.nat_cmp, Str.bytes_eq}
 use Rattle.std.specs.FinSet as set
-use Rattle.std.specs.List.{before_first, after_first}
-use Rattle.std.specs.Option.{option_map}
-use Rattle.std.specs.Ordering.{nat_cmp}
-use Rattle.std.specs.Str.{bytes_eq}
 use Rattle.dir_bytes.specs.Fields.{address, number}
-use Rattle.dir_values.specs.Arguments.{Argument}
-use Rattle.dir_values.specs.Digests.{fingerprint}
-use Rattle.dir_values.specs.Numbers.{number_of, port_of}
+use Rattle.dir_values.specs.{Arguments.Argument, Digests.fingerprint, Numbers.{number_of, port_of}}
 use Rattle.dir_values.specs.declared.digest.Fingerprint.{Fingerprint}
-use Rattle.flag_rules.specs.declared.ruling.Ruling.{Ruling}
-use Rattle.flag_rules.specs.declared.ruling.Ruling.TheVariants.{Approve, Reject, Invalid, BadExit, MiddleOnly}
-use Rattle.frame_values.specs.declared.found.Span.{Span}
-use Rattle.frame_values.specs.Fields.{span_of}
+use Rattle.flag_rules.specs.declared.ruling.Ruling.{Ruling, TheVariants.{Approve, Reject, Invalid, BadExit, MiddleOnly}}
+use Rattle.frame_values.specs.{declared.found.Span.Span, Fields.span_of}
 use Rattle.relay_entries.specs.Fields.{colon}
 
 -- a number of at most 64 bits

@@ -1,14 +1,11 @@
 -- What is kept of the items of a station input that stand once.
 use Rattle.std.specs.Prelude.{List, None}
-use Rattle.frame_terms.specs.declared.document.Taken.{Taken}
-use Rattle.frame_terms.specs.declared.keyword.Keyword.TheVariants.{Own, Contact, Schedule}
-use Rattle.frame_values.specs.declared.values.Value.{Value}
-use Rattle.frame_values.specs.Values.{item_at, text_if}
+use Rattle.frame_terms.specs.declared.{document.Taken.Taken, keyword.Keyword.TheVariants.{Own, Contact, Schedule}}
+use Rattle.frame_values.specs.{declared.values.Value.Value, Values.{item_at, text_if}}
 use Rattle.authority_certs.specs.Heads as cert
-use Rattle.station_input.specs.declared.frame_said.StationValue.{StationValue}
-use Rattle.station_input.specs.declared.head.Head.{Head}
+use Rattle.station_input.specs.{declared.{frame_said.StationValue.StationValue, head.Head.Head}, Saying.no_schedule}
+use Rattle.station_input.specs.Saying.{no_source, schedule_in, source_in}
 use Rattle.vote_terms.specs.ListLines.{lists_in, no_lists}
-use Rattle.station_input.specs.Saying.{no_schedule, no_source, schedule_in, source_in}
 
 -- what is kept where nothing was read
 abbrev pub no_head : Head

@@ -2,12 +2,9 @@
 use Rattle.std.specs.Prelude.{List, [], ◌++◌}
 use Rattle.frame_terms.specs.declared.document.Taken.{Taken}
 use Rattle.frame_values.specs.declared.values.Value.{Value}
-use Rattle.station_input.specs.declared.frame.StationSection.{StationSection}
-use Rattle.station_input.specs.declared.frame.StationSection.TheVariants.{Station, Certificate}
-use Rattle.station_input.specs.declared.frame_said.StationValue.{StationValue}
-use Rattle.station_input.specs.declared.kept.Kept.{Kept}
-use Rattle.station_input.specs.Heads.{no_head, with_certificate, with_station}
-use Rattle.station_input.specs.Saying.{measured_in, members_in, rules_in}
+use Rattle.station_input.specs.declared.frame.StationSection.{StationSection, TheVariants.{Station, Certificate}}
+use Rattle.station_input.specs.{declared.{frame_said.StationValue.StationValue, kept.Kept.Kept}, Heads.no_head}
+use Rattle.station_input.specs.{Heads.{with_certificate, with_station}, Saying.{measured_in, members_in, rules_in}}
 
 -- what is kept where nothing was read
 abbrev pub none_kept : Kept

@@ -1,17 +1,13 @@
 -- What the lines of a station input say, or the place of what is wrong: their arguments from left to right.
 use Rattle.std.specs.Prelude.{ℕ, Result, Ok, Err, if◌then◌else◌}
 use Rattle.item_terms.specs.Items.{Item}
-use Rattle.dir_values.specs.Digests.{fingerprint}
-use Rattle.dir_values.specs.Numbers.{number_of}
+use Rattle.dir_values.specs.{Digests.fingerprint, Numbers.number_of}
 use Rattle.flag_rules.specs.declared.operator.OperatorRule.{OperatorRule}
-use Rattle.frame_values.specs.declared.found.DirSource.{DirSource}
-use Rattle.frame_values.specs.Arguments.{arguments_of, front, others, field, next}
+use Rattle.frame_values.specs.{declared.found.DirSource.DirSource, Arguments.{arguments_of, front, others, field, next}}
 use Rattle.frame_values.specs.Lines.{source_of}
 use Rattle.station_input.specs.Fields.{Identities, bandwidth, long_number, new_identity, peer, ruling_named}
-use Rattle.station_input.specs.Sources.{fits_line}
-use Rattle.station_input.specs.declared.frame_said.MeasuredRelay.{MeasuredRelay}
-use Rattle.station_input.specs.declared.frame_said.MemberLine.{MemberLine}
-use Rattle.station_input.specs.declared.frame_said.ScheduleLine.{ScheduleLine}
+use Rattle.station_input.specs.{Sources.fits_line, declared.frame_said.MeasuredRelay.MeasuredRelay}
+use Rattle.station_input.specs.declared.frame_said.{MemberLine.MemberLine, ScheduleLine.ScheduleLine}
 
 -- who the own authority is, as a `dir-source` line says it, and such a line is none that is too long
 abbrev pub own_of : Item → Result DirSource ℕ

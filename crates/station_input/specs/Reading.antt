@@ -2,14 +2,9 @@
 use Rattle.std.specs.Prelude.{◌≡◌, ℕ, ◌≤◌, List, length, Result, Ok, Err}
 use Rattle.count_terms.specs.declared.newest.Newest.{Newest}
 use Rattle.item_terms.specs.Items.{items_of}
-use Rattle.frame_terms.specs.declared.fault.ReadRefusal.{ReadRefusal}
-use Rattle.frame_terms.specs.Documents.{document_of, finish}
-use Rattle.frame_terms.specs.Refusals.{Fails}
-use Rattle.station_input.specs.Tables.{station_tables}
-use Rattle.station_input.specs.declared.facts.StationFacts.{StationFacts}
-use Rattle.station_input.specs.declared.kept.Kept.{Kept}
-use Rattle.station_input.specs.Facts.{facts_of}
-use Rattle.station_input.specs.Kept.{kept_with, none_kept}
+use Rattle.frame_terms.specs.{declared.fault.ReadRefusal.ReadRefusal, Documents.{document_of, finish}, Refusals.Fails}
+use Rattle.station_input.specs.{Tables.station_tables, declared.{facts.StationFacts.StationFacts, kept.Kept.Kept}}
+use Rattle.station_input.specs.{Facts.facts_of, Kept.{kept_with, none_kept}}
 
 -- how many bytes a station input may have: as many as the input of a command
 abbrev pub max_station : ℕ

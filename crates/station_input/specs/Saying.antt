@@ -3,14 +3,11 @@
 use Rattle.std.specs.Prelude.{List, [], ◌∷◌, Option, Some, None}
 use Rattle.flag_rules.specs.declared.operator.OperatorRule.{OperatorRule}
 use Rattle.frame_terms.specs.declared.document.Taken.{Taken}
-use Rattle.frame_values.specs.declared.found.DirSource.{DirSource}
-use Rattle.frame_values.specs.declared.values.Value.{Value}
+use Rattle.frame_values.specs.{declared.{found.DirSource.DirSource, values.Value.Value}, Values.{own_in, nowhere}}
+use Rattle.frame_values.specs.Values.{no_identity}
 use Rattle.frame_values.specs.declared.values.Value.TheVariants as value
-use Rattle.frame_values.specs.Values.{own_in, nowhere, no_identity}
-use Rattle.station_input.specs.declared.frame_said.MeasuredRelay.{MeasuredRelay}
-use Rattle.station_input.specs.declared.frame_said.MemberLine.{MemberLine}
-use Rattle.station_input.specs.declared.frame_said.ScheduleLine.{ScheduleLine}
-use Rattle.station_input.specs.declared.frame_said.StationValue.{StationValue}
+use Rattle.station_input.specs.declared.frame_said.{MeasuredRelay.MeasuredRelay, MemberLine.MemberLine}
+use Rattle.station_input.specs.declared.frame_said.{ScheduleLine.ScheduleLine, StationValue.StationValue}
 use Rattle.station_input.specs.declared.frame_said.StationValue.TheVariants.{Source, Schedule, Member, Rule, Measured}
 
 -- an authority of which nothing is known

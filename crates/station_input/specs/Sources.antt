@@ -1,8 +1,7 @@
 -- The line of the own authority in its votes (dir-spec, "Vote and consensus status document formats", `dir-source`).
 use Rattle.std.specs.Prelude.{ℕ, nat_le, Bool, List, [], ◌∷◌, ◌++◌, length, codes, decimal}
 use Rattle.dir_bytes.specs.FieldTexts.{address_text, hex_text}
-use Rattle.item_terms.specs.Bytes.{line_feed, space}
-use Rattle.item_terms.specs.Faults.{max_line}
+use Rattle.item_terms.specs.{Bytes.{line_feed, space}, Faults.max_line}
 use Rattle.dir_values.specs.declared.digest.Fingerprint.{Fingerprint}
 use Rattle.frame_values.specs.declared.found.DirSource.{DirSource}
 

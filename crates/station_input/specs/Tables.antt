@@ -1,36 +1,26 @@
 -- The sections of a station input, their items, and what these say.
 use Rattle.std.specs.Prelude.{ℕ, Bool, false, List, [], ◌∷◌, Some, None, Result, Ok, codes}
 use Rattle.item_terms.specs.Items.{Item}
-use Rattle.frame_terms.specs.declared.fault.FrameFault.{FrameFault}
-use Rattle.frame_terms.specs.declared.keyword.Keyword.{Keyword}
+use Rattle.frame_terms.specs.declared.{fault.FrameFault.FrameFault, keyword.Keyword.Keyword, row.Count.TheVariants.One}
+use Rattle.frame_terms.specs.declared.{row.{Count.TheVariants.{Optional, Many}, Row.Row}, section.Shape.Shape}
+use Rattle.frame_terms.specs.{Order.knows, Rows.row, Tables.Tables}
 use Rattle.frame_terms.specs.declared.keyword.Keyword.TheVariants as the
-use Rattle.frame_terms.specs.declared.row.Count.TheVariants.{One, Optional, Many}
 use Rattle.frame_terms.specs.declared.row.Limit.TheVariants as limit
-use Rattle.frame_terms.specs.declared.row.Row.{Row}
 use Rattle.frame_terms.specs.declared.section.Again.TheVariants as again
-use Rattle.frame_terms.specs.declared.section.Shape.{Shape}
-use Rattle.frame_terms.specs.Order.{knows}
-use Rattle.frame_terms.specs.Rows.{row}
-use Rattle.frame_terms.specs.Tables.{Tables}
-use Rattle.frame_values.specs.declared.values.Value.{Value}
-use Rattle.frame_values.specs.declared.values.Value.TheVariants as value
-use Rattle.frame_values.specs.Faults.{at_place, too_many, unless_fault}
-use Rattle.frame_values.specs.Arguments.{next}
+use Rattle.frame_values.specs.{declared.values.Value.Value, Faults.{at_place, too_many, unless_fault}, Arguments.next}
 use Rattle.frame_values.specs.Lines.{literal, rest_of}
+use Rattle.frame_values.specs.declared.values.Value.TheVariants as value
 use Rattle.value_groups.specs.ListLines.{params_of, protocols_of, versions_of}
-use Rattle.authority_certs.specs.Tables.{cert_rows, cert_shape, cert_value}
-use Rattle.authority_certs.specs.declared.frame.CertKind.{CertKind}
+use Rattle.authority_certs.specs.{Tables.{cert_rows, cert_shape, cert_value}, declared.frame.CertKind.CertKind}
 use Rattle.authority_certs.specs.declared.frame.CertKind.TheVariants as cert
 use Rattle.vote_frame.specs.Tables.{vote_tables}
-use Rattle.station_input.specs.Across.{nothing_across, note_value}
-use Rattle.station_input.specs.Lines.{measured_of, member_of, own_of, rule_of, schedule_of}
-use Rattle.station_input.specs.declared.across.Across.{Across}
-use Rattle.station_input.specs.declared.frame.StationKind.{StationKind}
+use Rattle.station_input.specs.{Across.{nothing_across, note_value}, Lines.{measured_of, member_of, own_of, rule_of}}
+use Rattle.station_input.specs.{Lines.schedule_of, declared.{across.Across.Across, frame.StationKind.StationKind}}
 use Rattle.station_input.specs.declared.frame.StationKind.TheVariants.{Version, Source, Rest, Schedule, Member}
 use Rattle.station_input.specs.declared.frame.StationKind.TheVariants.{Versions, Protocols, Params, Rule, Measured}
 use Rattle.station_input.specs.declared.frame.StationKind.TheVariants.{Nothing, Certificate}
-use Rattle.station_input.specs.declared.frame.StationSection.{StationSection}
-use Rattle.station_input.specs.declared.frame.StationSection.TheVariants.{Station, Certificate as CertificateSection}
+use Rattle.station_input.specs.declared.frame.StationSection.{StationSection, TheVariants.Station}
+use Rattle.station_input.specs.declared.frame.StationSection.TheVariants.{Certificate as CertificateSection}
 use Rattle.station_input.specs.declared.frame_said.StationValue.{StationValue}
 use Rattle.station_input.specs.declared.frame_said.StationValue.TheVariants as own
 

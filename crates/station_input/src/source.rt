@@ -1,6 +1,5 @@
 // Whether the line of an authority fits into a document.
-ghost use Rattle.std.specs.Prelude.{◌≡◌, ◌∷◌};
-ghost use Rattle.std.specs.Fmt.{decimal};
+ghost use Rattle.std.specs.{Prelude.{◌≡◌, ◌∷◌}, Fmt.decimal};
 ghost use Rattle.dir_bytes.specs.FieldTexts.{address_text, hex_text};
 ghost use Rattle.item_terms.specs.Bytes.{space};
 ghost use Rattle.text_page.specs.Pages.{with_text};

@@ -1,37 +1,27 @@
 -- The places of what is wrong with the items of what a station is given, and of the first fault of their document.
-use Rattle.std.proofs.Common.{ℕ, Bool, true, false, length, Result, Ok, Err}
-use Rattle.std.specs.Prelude.{codes, if◌then◌else◌}
+use Rattle.std.{proofs.Common.{ℕ, Bool, true, false, length, Result, Ok, Err}, specs.Prelude.{codes, if◌then◌else◌}}
 use Rattle.item_terms.specs.Items.{Item}
-use Rattle.dir_values.specs.Digests.{fingerprint}
-use Rattle.dir_values.specs.Numbers.{number_of}
-use Rattle.list_values.specs.Params.{wrong_param}
-use Rattle.list_values.specs.Protocols.{wrong_protocol}
-use Rattle.list_values.specs.VersionLists.{wrong_version_list}
+use Rattle.dir_values.specs.{Digests.fingerprint, Numbers.number_of}
+use Rattle.list_values.specs.{Params.wrong_param, Protocols.wrong_protocol, VersionLists.wrong_version_list}
 use Rattle.value_groups.specs.ListLines.{params_of, protocols_of, versions_of}
 use Rattle.frame_terms.specs.declared.row.Limit.TheVariants as limit
-use Rattle.frame_values.specs.Arguments.{arguments_of, front, next, others}
-use Rattle.frame_values.specs.Lines.{literal, source_of}
-use Rattle.frame_values.specs.declared.found.DirSource.{DirSource}
-use Rattle.frame_values.specs.declared.values.Value.{Value}
+use Rattle.frame_values.specs.{Arguments.{arguments_of, front, next, others}, Lines.{literal, source_of}}
+use Rattle.frame_values.specs.declared.{found.DirSource.DirSource, values.Value.Value}
 use Rattle.frame_values.specs.declared.values.Value.TheVariants as value
-use Rattle.station_input.specs.Across.{note_value}
-use Rattle.station_input.specs.Fields.{Identities, bandwidth, long_number, new_identity, peer, ruling_named}
-use Rattle.station_input.specs.Lines.{measured_of, member_of, own_of, rule_of, schedule_of}
-use Rattle.station_input.specs.Sources.{fits_line}
-use Rattle.station_input.specs.Tables.{over_limit, station_tables, value_at}
-use Rattle.station_input.specs.declared.across.Across.{Across}
-use Rattle.station_input.specs.declared.frame.StationKind.{StationKind}
-use Rattle.station_input.specs.declared.frame.StationKind.TheVariants as kind
+use Rattle.station_input.specs.{Across.note_value, Fields.{Identities, bandwidth, long_number, new_identity, peer}}
+use Rattle.station_input.specs.{Fields.ruling_named, Lines.{measured_of, member_of, own_of, rule_of, schedule_of}}
+use Rattle.station_input.specs.{Sources.fits_line, Tables.{over_limit, station_tables, value_at}}
+use Rattle.station_input.specs.declared.{across.Across.Across, frame.StationKind.StationKind}
 use Rattle.station_input.specs.declared.frame_said.StationValue.{StationValue}
+use Rattle.station_input.specs.declared.frame.StationKind.TheVariants as kind
 use Rattle.station_input.specs.declared.frame_said.StationValue.TheVariants as own
-use Rattle.fault_places.specs.Within.{FaultIn, FaultsStandIn, HasFaultsWithin}
-use Rattle.fault_places.proofs.FirstFaults.{first_faults}
+use Rattle.fault_places.{specs.Within.{FaultIn, FaultsStandIn, HasFaultsWithin}, proofs.FirstFaults.first_faults}
 use Rattle.fault_places.proofs.ArgumentPlaces.{PlaceIn, others_begin, param_in, protocol_in, versions_in}
 use Rattle.fault_places.proofs.ItemPlaces.{IsItemIn, all_begin, front_argument_begins, first_begins, item_in}
 use Rattle.fault_places.proofs.ItemPlaces.{literal_in, more_in, rest_in, second_begins, source_in, then_in}
+use Rattle.fault_places.proofs.Placed.{last_in, placed_unless}
 use Rattle.vote_parts.proofs.VotePlaces.{many_in}
 use Rattle.document_faults.proofs.CertificatePlaces.{certificate_in}
-use Rattle.fault_places.proofs.Placed.{last_in, placed_unless}
 
 module _ (n : ℕ) (item : Item) (is : IsItemIn n item) where
   -- ---- lines

@@ -2,20 +2,15 @@
 use Rattle.std.proofs.Common.{◌≡◌, ℕ, ◌+◌, ◌-◌, ◌≤◌, List, length, drop, Result, Ok, Err, refl, ap, ◌∙◌, arith}
 use Rattle.std.proofs.lemmas.List.{length-drop}
 use Rattle.item_terms.specs.Items.{items_of}
-use Rattle.frame_terms.specs.declared.fault.ReadRefusal.{ReadRefusal}
-use Rattle.frame_terms.specs.declared.fault.ReadRefusal.TheVariants.{Frame, Memory}
-use Rattle.frame_terms.specs.Documents.{Document, document_of, finish}
+use Rattle.frame_terms.specs.{declared.fault.ReadRefusal.{ReadRefusal, TheVariants.{Frame, Memory}}, Documents.Document}
+use Rattle.frame_terms.specs.Documents.{document_of, finish}
 use Rattle.frame_values.specs.declared.values.Value.{Value}
 use Rattle.descriptor_doc.specs.Reading.{front_of, max_descriptor, own_kept, with_descriptor}
-use Rattle.descriptor_doc.specs.declared.descriptor.Descriptor.{Descriptor}
-use Rattle.descriptor_doc.specs.declared.kept.Kept.{Kept}
-use Rattle.descriptor_doc.proofs.Fronts.{front_within}
-use Rattle.descriptor_doc.proofs.KeptDescriptors.{kept_within}
-use Rattle.station_input.specs.Tables.{station_tables}
-use Rattle.station_input.specs.declared.frame.StationSection.{StationSection}
-use Rattle.station_input.specs.declared.frame_said.StationValue.{StationValue}
+use Rattle.descriptor_doc.specs.declared.{descriptor.Descriptor.Descriptor, kept.Kept.Kept}
+use Rattle.descriptor_doc.proofs.{Fronts.front_within, KeptDescriptors.kept_within}
+use Rattle.station_input.specs.{Tables.station_tables, declared.frame.StationSection.StationSection}
+use Rattle.station_input.specs.{declared.frame_said.StationValue.StationValue, Reading.{max_station, with_facts}}
 use Rattle.station_input.specs.Kept as station_kept
-use Rattle.station_input.specs.Reading.{max_station, with_facts}
 use Rattle.station_laws.specs.Within.{DescriptorFaultsStandWithin, StationFaultsStandWithin}
 use Rattle.station_laws.proofs.FaultsStationPlaces.{station_faults}
 

@@ -1,41 +1,30 @@
--- What is kept of a station input names each relay once.
-use Rattle.std.proofs.Common.{◌≡◌, ◌⊎◌, ℕ, Bool, true, false, List, [], ◌∷◌, ◌++◌, Option, Some, None, Result, Ok}
-use Rattle.std.proofs.Common.{Err, refl}
-use Rattle.std.proofs.Common.{sym, ap, subst, ◌∙◌, inl, inr, map}
-use Rattle.std.specs.Prelude.{AllPairs, length, replicate, if◌then◌else◌}
+-- The sections of a station input, and what it is given of which these were read.
+use Rattle.std.proofs.Common.{◌≡◌, ◌⊎◌, ℕ, Bool, true, false, List, [], ◌∷◌, ◌++◌, Option, Some, None, Result, Ok, Err}
+use Rattle.std.{proofs.Common.{refl, ap, subst, ◌∙◌, inl, inr, map}, specs.Prelude.{length, replicate, if◌then◌else◌}}
 use Rattle.std.specs.List.{fold}
-use Rattle.std.proofs.lemmas.List.Elements.{All-from_recursion}
-use Rattle.dir_values.proofs.Orders.{AllPairs-cons, AllPairs-nil}
 use Rattle.count_terms.specs.declared.newest.Newest.{Newest}
-use Rattle.dir_values.specs.Digests.{same_identity}
-use Rattle.flag_rules.specs.Rules.{AreApart}
-use Rattle.flag_rules.specs.declared.operator.OperatorRule.{OperatorRule}
-use Rattle.frame_terms.specs.Documents.{Document, document_of, finish, group}
-use Rattle.frame_terms.specs.Keywords.{same}
-use Rattle.frame_terms.specs.Order.{inner}
-use Rattle.frame_terms.specs.declared.fault.ReadRefusal.{ReadRefusal}
+use Rattle.frame_terms.specs.{Documents.{Document, document_of, group}, Keywords.same, Order.inner}
+use Rattle.frame_terms.specs.declared.{document.{Group.Group, Taken.Taken}, fault.ReadRefusal.ReadRefusal}
 use Rattle.frame_terms.specs.declared.keyword.Keyword.{Keyword}
 use Rattle.frame_terms.specs.declared.keyword.Keyword.TheVariants as the
 use Rattle.frame_values.specs.declared.values.Value.{Value}
 use Rattle.item_terms.specs.Items.{items_of}
-use Rattle.document_laws.specs.Order.{AreInOrder, sections_of}
-use Rattle.document_laws.specs.Documents.{AreParts}
-use Rattle.document_laws.specs.Parts.{AreOthers, IsPart}
-use Rattle.station_input.specs.Tables.{station_tables}
-use Rattle.station_input.specs.declared.across.Across.{Across}
-use Rattle.station_input.specs.declared.frame.StationSection.{StationSection}
+use Rattle.document_laws.specs.{Order.{AreInOrder, Part, sections_of}, Documents.AreParts, Parts.{AreOthers, IsPart}}
+use Rattle.station_input.specs.{Tables.station_tables, declared.across.Across.Across}
+use Rattle.station_input.specs.declared.{frame.StationSection.StationSection, frame_said.StationValue.StationValue}
+use Rattle.station_input.specs.{declared.facts.StationFacts.StationFacts, Facts.facts_of, Kept.{kept_with, none_kept}}
+use Rattle.station_input.specs.Reading.{max_station}
 use Rattle.station_input.specs.declared.frame.StationSection.TheVariants as its
-use Rattle.station_input.specs.declared.frame_said.MeasuredRelay.{MeasuredRelay}
-use Rattle.station_input.specs.declared.frame_said.StationValue.{StationValue}
-use Rattle.station_input.specs.Facts.{facts_of}
-use Rattle.station_input.specs.Kept.{kept_with, none_kept}
-use Rattle.station_input.specs.Reading.{max_station, with_facts}
-use Rattle.station_input.specs.Saying.{measured_if, measured_in, onto_if, rule_if, rules_in}
-use Rattle.station_input.specs.declared.facts.StationFacts.{StationFacts}
-use Rattle.station_laws.specs.Once.{AreOfOthers, NamesOnce, RelaysAreNamedOnce}
-use Rattle.station_laws.proofs.NamedOnce.{AllDiffer, StationGroup, StationPart, StationTaken, lines_in, part_named}
-use Rattle.station_laws.proofs.StationNotes.{Naming, measured_name, rules_name}
 use Rattle.station_laws.proofs.StationTables.{stations_are_exact}
+
+abbrev pub StationTaken : Type 0
+StationTaken = Taken (Value StationValue)
+
+abbrev pub StationGroup : Type 0
+StationGroup = Group StationSection (Value StationValue)
+
+abbrev pub StationPart : Type 0
+StationPart = Part StationSection (Value StationValue)
 
 -- ---- the sections of a station input
 
@@ -130,55 +119,7 @@ abbrev pub facts_in : Newest → List ℕ → List StationGroup → StationFacts
 facts_in newest bytes groups =
     facts_of newest bytes (fold (λ kept (g : StationGroup). kept_with kept g.section g.taken) none_kept groups)
 
--- ---- lines of a section
-
-rules_are : (taken : List StationTaken) → rules_in taken ≡ lines_in rules_name taken
-rules_are [] = refl
-rules_are (one ∷ taken) = ap (λ (l : List OperatorRule). onto_if (rule_if one.value) l) (rules_are taken)
-
-measured_are : (taken : List StationTaken) → measured_in taken ≡ lines_in measured_name taken
-measured_are [] = refl
-measured_are (one ∷ taken) = ap (λ (l : List MeasuredRelay). onto_if (measured_if one.value) l) (measured_are taken)
-
-module _ {R : Type 0} (naming : Naming R) where
-  abbrev IsOther : R → R → Type 0
-  IsOther earlier later = same_identity (naming.identity earlier) (naming.identity later) ≡ false
-
-  all_pairs : (list : List R) → AllDiffer naming list → AllPairs IsOther list
-  all_pairs [] differ = AllPairs-nil IsOther
-  all_pairs (r ∷ list) differ =
-      AllPairs-cons IsOther r list (All-from_recursion (IsOther r) list differ.0) (all_pairs list differ.1)
-
--- the rules and the measured lines of a section
-record AreNamedOnce (taken : List StationTaken) : Type 0 where
-  rules : AreApart (rules_in taken)
-  measured : AreOfOthers (measured_in taken)
-
-named_in_section : (part : StationPart) (next : Across) → IsPart station_tables station_tables.start part next
-    → AreNamedOnce part.whole.taken
-named_in_section part next is =
-    let taken = part.whole.taken in
-    let rules = all_pairs rules_name (lines_in rules_name taken)
-    (part_named rules_name station_tables.start part next is).differ in
-    let measured =
-    all_pairs measured_name (lines_in measured_name taken)
-    (part_named measured_name station_tables.start part next is).differ in
-    record {
-      rules = subst (λ (l : List OperatorRule). AreApart l) (sym (rules_are taken)) rules;
-      measured = subst (λ (l : List MeasuredRelay). AreOfOthers l) (sym (measured_are taken)) measured;
-    }
-
-named_in : (newest : Newest) (bytes : List ℕ) (groups : List StationGroup) (taken : List StationTaken)
-    → AreSections groups taken
-    → AreNamedOnce taken → NamesOnce (facts_in newest bytes groups)
-named_in newest bytes groups taken (inl are) once =
-    subst (λ (l : List StationGroup). NamesOnce (facts_in newest bytes l)) (sym are)
-    (record { rules = once.rules; measured = once.measured })
-named_in newest bytes groups taken (inr (certificate, are)) once =
-    subst (λ (l : List StationGroup). NamesOnce (facts_in newest bytes l)) (sym are)
-    (record { rules = once.rules; measured = once.measured })
-
--- ---- the law
+-- ---- what is read
 
 abbrev facts_or : StationFacts → Result (StationFacts × ℕ) ReadRefusal → StationFacts
 facts_or other (Ok found) = found.0
@@ -189,18 +130,3 @@ as_facts facts used = Ok (facts, used)
 
 pub same_facts : (a b : StationFacts) (m n : ℕ) → as_facts a m ≡ as_facts b n → a ≡ b
 same_facts a b m n is = ap (facts_or a) is
-
-pub named_once : RelaysAreNamedOnce
-named_once newest bytes facts used is =
-    by (document_of station_tables (length bytes) (items_of max_station bytes)) refl is
-  where
-    by : (read : Result (Document StationSection (Value StationValue)) ReadRefusal)
-        → document_of station_tables (length bytes) (items_of max_station bytes) ≡ read
-        → with_facts newest bytes (finish kept_with none_kept read) ≡ Ok (facts, used) → NamesOnce facts
-    by (Err refusal) e f = absurd (cc (f))
-    by (Ok document) e f =
-        let has = sections_are bytes document e in
-        subst (λ (f : StationFacts). NamesOnce f) (same_facts
-        (facts_in newest bytes document.groups) facts document.used used f)
-        (named_in newest bytes document.groups has.part.whole.taken (groups_are document has)
-        (named_in_section has.part has.next has.is_part))

@@ -1,25 +1,17 @@
 -- The tables of a station input are sound and clear.
-use Rattle.std.proofs.Common.{◌≡◌, true, false, [], Option, Some, None, refl, ap, subst}
-use Rattle.std.specs.Prelude.{IfSome}
-use Rattle.std.specs.List.{AllByRecursion, IsDistinct}
-use Rattle.std.proofs.lemmas.Option.{none-some}
+use Rattle.std.proofs.{Common.{◌≡◌, true, false, [], Option, Some, None, refl, ap, subst}, lemmas.Option.none-some}
+use Rattle.std.specs.{Prelude.IfSome, List.{AllByRecursion, IsDistinct}}
 use Rattle.item_terms.specs.Items.{Item}
 use Rattle.frame_terms.specs.declared.keyword.Keyword.TheVariants as the
-use Rattle.frame_terms.specs.declared.row.Count.TheVariants.{One}
-use Rattle.frame_terms.specs.declared.row.Row.{Row}
-use Rattle.frame_terms.specs.Keywords.{same}
-use Rattle.frame_terms.specs.Order.{following_sections, opener}
-use Rattle.frame_terms.specs.Rows.{row}
-use Rattle.frame_terms.specs.Sections.{row_of}
+use Rattle.frame_terms.specs.{declared.row.{Count.TheVariants.One, Row.Row}, Keywords.same, Order.following_sections}
+use Rattle.frame_terms.specs.{Order.opener, Rows.row, Sections.row_of}
 use Rattle.authority_certs.specs.declared.frame.CertKind.TheVariants as cert
-use Rattle.station_input.specs.declared.frame.StationKind.{StationKind}
-use Rattle.station_input.specs.declared.frame.StationKind.TheVariants as item
-use Rattle.station_input.specs.declared.frame.StationSection.{StationSection}
-use Rattle.station_input.specs.declared.frame.StationSection.TheVariants as its
+use Rattle.station_input.specs.declared.frame.{StationKind.StationKind, StationSection.StationSection}
 use Rattle.station_input.specs.Tables.{station_tables}
-use Rattle.document_laws.specs.Sound.{AreSound, IsInner, StandsOnce, ends_document}
-use Rattle.document_laws.specs.Clear.{AreClear, IsEnd, IsEntrance}
-use Rattle.document_laws.proofs.Exact.{are_exact}
+use Rattle.station_input.specs.declared.frame.StationKind.TheVariants as item
+use Rattle.station_input.specs.declared.frame.StationSection.TheVariants as its
+use Rattle.document_laws.specs.{Sound.{AreSound, IsInner, StandsOnce, ends_document}, Clear.{AreClear, IsEnd}}
+use Rattle.document_laws.{specs.Clear.IsEntrance, proofs.Exact.are_exact}
 use Rattle.station_laws.specs.Stations.{StationsAreExact}
 
 -- ---- sound

@@ -1,7 +1,5 @@
 -- What a station is given, as one of the kinds of documents.
-use Rattle.document_laws.specs.Clear.{AreClear}
-use Rattle.document_laws.specs.Documents.{AreExact}
-use Rattle.document_laws.specs.Sound.{AreSound}
+use Rattle.document_laws.specs.{Clear.AreClear, Documents.AreExact, Sound.AreSound}
 use Rattle.station_input.specs.Tables.{station_tables}
 
 -- The tables of a station input are sound and clear, so that items are read as one exactly where they are its parts.

@@ -6,5 +6,5 @@
 mod laws;
 mod station_places;
 
-pub use laws::{relays_are_named_once, station_inputs_are_exact};
+pub use laws::station_inputs_are_exact;
 pub use station_places::{descriptor_faults_stand_within, station_faults_stand_within};

@@ -1,7 +1,6 @@
 -- A piece that is copied off the front of some bytes.
 use Rattle.std.proofs.Common.{◌≡◌, ◌∙◌, ℕ, ◌+◌, ◌≤◌, List, ◌++◌, length, take, drop, ap, sym, arith, length-take}
-use Rattle.std.proofs.Common.{drop-drop, take-take}
-use Rattle.std.proofs.lemmas.List.{take-append-drop, take-append-le}
+use Rattle.std.proofs.{Common.{drop-drop, take-take}, lemmas.List.{take-append-drop, take-append-le}}
 
 pub piece_comes : (bytes rest copied back : List ℕ) (place count : ℕ) → rest ≡ drop place bytes → copied ≡ take count rest
     → count ≤ length rest → drop place bytes ≡ take count (copied ++ back) ++ drop (place + count) bytes

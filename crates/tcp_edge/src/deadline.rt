@@ -18,6 +18,14 @@ impl Deadline {
         }
     }
 
+    /// One that is over.
+    pub(crate) fn past() -> Deadline {
+        Deadline {
+            began: None,
+            most: Duration::from_secs(0),
+        }
+    }
+
     /// Whether the time is over, or cannot be told.
     pub(crate) fn is_over<R: Clock>(&self, runtime: &R) -> bool {
         match &self.began {

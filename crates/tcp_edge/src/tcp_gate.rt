@@ -3,20 +3,22 @@ ghost use Rattle.std.specs.Prelude.{◌≡◌, ◌≤◌, true, false};
 
 use crate::arrived::ArrivedSource;
 use crate::leaving::LeavingSink;
-use crate::traffic::{Traffic, period};
+use crate::traffic::Traffic;
 use dir_http::{Gate, GateAnswer, ListenAnswer};
 use std::alloc::Global;
 use std::io::{self, ErrorKind};
 use std::net::{Net, TcpListener, TcpStream};
 use std::rt::Clock;
+use std::str;
 use std::sync::OnceLock;
-use std::{str, thread};
+use std::time::Duration;
 
 /// A gate over TCP.
 ///
 /// It keeps what it accepts until the request has arrived, or the time for that is over, and only then gives the
 /// connection: what a worker reads of it is there. What a peer has no room for of a response the gate sends later. It
-/// answers `Idle` about once a second, also where connections come all the time.
+/// answers `Idle` at its first call, and again once its period is over, also where connections come all the time. A
+/// period begins with the call that follows an `Idle`, so what is done in between is no part of it.
 #[derive(Drop)]
 pub struct TcpGate<'a, R> {
     runtime: &'a R,
@@ -30,22 +32,25 @@ pub struct TcpGate<'a, R> {
 }
 
 impl<'a, R: Net<Listener = TcpListener, Stream = TcpStream> + Clock> TcpGate<'a, R> {
-    /// A gate that was not called yet, and gives connections.
+    /// A gate that was not called yet, gives connections, and answers `Idle` so often.
     pub fn serving(
         alloc: Global,
         runtime: &'a R,
         listener: &'a OnceLock<TcpListener>,
+        period: Duration,
     ) -> TcpGate<'a, R> {
-        TcpGate::new(alloc, runtime, listener, true)
+        TcpGate::new(alloc, runtime, listener, period, true)
     }
 
-    /// A gate that was not called yet. It listens and gives no connection, so that its worker is always free.
+    /// A gate that was not called yet, and answers `Idle` so often. It listens and gives no connection, so that its worker
+    /// is always free.
     pub fn idling(
         alloc: Global,
         runtime: &'a R,
         listener: &'a OnceLock<TcpListener>,
+        period: Duration,
     ) -> TcpGate<'a, R> {
-        TcpGate::new(alloc, runtime, listener, false)
+        TcpGate::new(alloc, runtime, listener, period, false)
     }
 
     /// A gate that was not called yet.
@@ -53,13 +58,14 @@ impl<'a, R: Net<Listener = TcpListener, Stream = TcpStream> + Clock> TcpGate<'a,
         alloc: Global,
         runtime: &'a R,
         listener: &'a OnceLock<TcpListener>,
+        period: Duration,
         serves: bool,
     ) -> TcpGate<'a, R> {
         TcpGate {
             runtime,
             listener,
             serves,
-            traffic: Traffic::new(alloc, runtime),
+            traffic: Traffic::new(alloc, runtime, period),
             faults: 0,
             asked: false,
             closed: false,
@@ -115,7 +121,7 @@ impl<'a, R: Net<Listener = TcpListener, Stream = TcpStream> + Clock> Gate for Tc
             return GateAnswer::Fault;
         };
         if !self.serves {
-            thread::sleep(self.runtime, period());
+            self.traffic.wait();
             return GateAnswer::Idle;
         }
         match self.traffic.look(listener) {

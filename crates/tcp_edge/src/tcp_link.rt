@@ -5,7 +5,7 @@ ghost use Rattle.dir_http.specs.Links.{GotWithin};
 use crate::deadline::Deadline;
 use crate::timed::{TimedSink, TimedSource};
 use dir_bytes::{ReadAllFault, WriteAll, read_all, write_all};
-use dir_http::{Link, LinkAnswer};
+use dir_http::{Link, LinkAnswer, is_response};
 use std::alloc::Global;
 use std::io::{self, ErrorKind};
 use std::net::{Net, OpenStream, SocketAddr, TcpStream};
@@ -23,24 +23,33 @@ fn whole() -> Duration {
     Duration::from_secs(20)
 }
 
-/// How long a peer is left alone once it has failed.
+/// How long a peer is left alone once it has failed, or sent no response.
 fn rest() -> Duration {
     Duration::from_secs(30)
 }
 
-/// A peer that has failed, and how long it is left alone.
+/// A peer that has failed, or sent no response, and how long it is left alone.
 #[derive(Drop)]
 struct Resting {
     peer: Vec<u8>,
     time: Deadline,
 }
 
-/// A link over TCP. It fails where the peer takes too long, and then at once for a while, so that one slow peer does not hold up
-/// what is asked of the others.
+/// Whether an answer is no response: the link failed, or what came is too long or no whole response.
+fn is_failure(answer: &LinkAnswer) -> bool {
+    match answer {
+        LinkAnswer::Got(bytes) => !is_response(bytes),
+        LinkAnswer::TooLong | LinkAnswer::Fault => true,
+        LinkAnswer::Memory => false,
+    }
+}
+
+/// A link over TCP. It fails where the peer takes too long. A peer that took too long, or whose answer is no response, is
+/// not asked for a while, in which the link fails at once: so one bad peer does not hold up what is asked of the others.
 #[derive(Drop)]
 pub struct TcpLink<'a, R> {
     runtime: &'a R,
-    /// The peers that failed lately, the first of them first.
+    /// The peers that failed lately, or sent no response, the first of them first.
     resting: Vec<Resting>,
     faults: u64,
 }
@@ -55,7 +64,7 @@ impl<'a, R: Net + Clock> TcpLink<'a, R> {
         }
     }
 
-    /// Whether a peer failed so lately that it is left alone.
+    /// Whether a peer is left alone.
     fn rests(&self, peer: &[u8]) -> bool {
         for resting in &self.resting {
             if resting.peer.as_slice() == peer && !resting.time.is_over(self.runtime) {
@@ -127,13 +136,13 @@ impl<'a, R: Net + Clock> TcpLink<'a, R> {
         }
     }
 
-    /// What a peer sends. One that fails is left alone for a while.
+    /// What a peer sends. One that fails, or sends no response, is left alone for a while.
     fn ask_once(&mut self, alloc: Global, peer: &[u8], request: &[u8], limit: u64) -> LinkAnswer
         ensures answer { GotWithin limit result }
         ensures faults { self.new.faults ≡ self.old.faults }
     {
         let answer = self.ask(alloc, peer, request, limit);
-        if let LinkAnswer::Fault = &answer {
+        if is_failure(&answer) {
             self.let_rest(alloc, peer);
         }
         answer

@@ -1,7 +1,6 @@
 // A source and a sink over a connection that may last a limited time. They tell nothing of content.
 ghost use Rattle.std.specs.Prelude.{◌≡◌, ◌≤◌, ◌<◌, None, length};
-ghost use Rattle.dir_bytes.specs.Streams.{GivesWithin, TakesFrom, CountsReads};
-ghost use Rattle.dir_bytes.specs.Streams.{TakesWithin, AddsTo, CountsWrites};
+ghost use Rattle.dir_bytes.specs.Streams.{GivesWithin, TakesFrom, CountsReads, TakesWithin, AddsTo, CountsWrites};
 
 use crate::deadline::Deadline;
 use dir_bytes::{ReadAnswer, Sink, Source, WriteAnswer};

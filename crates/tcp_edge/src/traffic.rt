@@ -13,7 +13,7 @@ use std::thread;
 use std::time::Duration;
 
 /// How often a gate looks for a request before it answers `Idle`, whatever the clock says.
-const ROUNDS: u64 = 1000000;
+const ROUNDS: u64 = 100000000;
 
 /// How many connections a gate accepts at once, so that the gates which share a listener share what comes.
 const ACCEPTED: usize = 8;
@@ -21,11 +21,6 @@ const ACCEPTED: usize = 8;
 /// How long a request may take to arrive.
 fn whole() -> Duration {
     Duration::from_secs(120)
-}
-
-/// How long a gate looks for requests before it answers `Idle`.
-pub(crate) fn period() -> Duration {
-    Duration::from_secs(1)
 }
 
 /// How long a gate rests where nothing has come.
@@ -40,19 +35,22 @@ pub(crate) struct Traffic<'a, R> {
     runtime: &'a R,
     room: WaitingRoom,
     departures: Departures,
-    /// When no connection is looked for any more.
-    idle: Deadline,
+    /// How long connections are looked for before the gate answers `Idle`.
+    period: Duration,
+    /// When that is over, if it has begun.
+    ends: Option<Deadline>,
 }
 
 impl<'a, R: Clock> Traffic<'a, R> {
-    /// No connection yet.
-    pub(crate) fn new(alloc: Global, runtime: &'a R) -> Traffic<'a, R> {
+    /// No connection yet. The first period is over.
+    pub(crate) fn new(alloc: Global, runtime: &'a R, period: Duration) -> Traffic<'a, R> {
         Traffic {
             alloc,
             runtime,
             room: WaitingRoom::new(alloc),
             departures: Departures::new(alloc),
-            idle: Deadline::new(runtime, period()),
+            period,
+            ends: Some(Deadline::past()),
         }
     }
 
@@ -93,12 +91,25 @@ impl<'a, R: Clock> Traffic<'a, R> {
         }
     }
 
+    /// Whether no connection is looked for any more. A period begins with the first call after it was over.
+    fn is_over(&mut self) -> bool {
+        let ends = match self.ends.take() {
+            Some(ends) => ends,
+            None => Deadline::new(self.runtime, self.period),
+        };
+        if ends.is_over(self.runtime) {
+            return true;
+        }
+        self.ends = Some(ends);
+        false
+    }
+
     /// Looks for a connection whose request has arrived, and sends meanwhile what is left of responses.
     pub(crate) fn look(&mut self, listener: &TcpListener) -> Option<(ArrivedSource, LeavingSink)> {
         let mut piece = [0u8; 16384];
         self.departures.collect(self.runtime);
         for _ in 0..ROUNDS {
-            if self.idle.is_over(self.runtime) {
+            if self.is_over() {
                 break;
             }
             if let Some(waiting) = self.room.next_ready(self.runtime, &mut piece) {
@@ -111,7 +122,13 @@ impl<'a, R: Clock> Traffic<'a, R> {
                 thread::sleep(self.runtime, pause());
             }
         }
-        self.idle = Deadline::new(self.runtime, period());
         None
+    }
+
+    /// Waits until the period is over, and looks for none.
+    pub(crate) fn wait(&mut self) {
+        if self.ends.take().is_none() {
+            thread::sleep(self.runtime, self.period);
+        }
     }
 }

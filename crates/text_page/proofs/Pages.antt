@@ -1,12 +1,9 @@
 -- Texts on a page, one after another.
-use Rattle.std.proofs.Common.{◌≡◌, ℕ, ◌+◌, ◌-◌, ◌^◌, ◌<◌, ◌≤◌, Bool, true, false, nat_le, List, [], ◌∷◌, ◌++◌, length, get_or, take, Some, None, Option, refl, sym, ap, subst, ◌∙◌, append_assoc, arith, length-append}
-use Rattle.std.specs.Prelude.{option_map, unwrap_or, IfSome}
-use Rattle.std.proofs.lemmas.Bool.Decides.{nat_tests}
-use Rattle.std.specs.Prelude.{slice_get}
-use Rattle.std.specs.List.{flat_map}
-use Rattle.std.proofs.lemmas.Grind.{flat_map-append}
-use Rattle.std.proofs.lemmas.List.{append-nil, flat_map_more, take_more}
-use Rattle.std.proofs.lemmas.Option.{get_or_from_slice_get, slice_get_within}
+use Rattle.std.proofs.Common.{◌≡◌, ℕ, ◌+◌, ◌-◌, ◌^◌, ◌<◌, ◌≤◌, Bool, true, false, nat_le, List, [], ◌∷◌, ◌++◌, length}
+use Rattle.std.proofs.Common.{get_or, take, Some, None, Option, refl, sym, ap, subst, ◌∙◌, append_assoc, arith}
+use Rattle.std.proofs.{Common.length-append, lemmas.{Bool.Decides.nat_tests, Grind.flat_map-append, List.append-nil}}
+use Rattle.std.proofs.lemmas.{List.{flat_map_more, take_more}, Option.{get_or_from_slice_get, slice_get_within}}
+use Rattle.std.specs.{Prelude.{option_map, unwrap_or, IfSome, slice_get}, List.flat_map}
 use Rattle.text_page.specs.Pages.{Sheet, sheet_with, with_text, blank, room_behind, count_of, counted_length}
 
 -- a text behind another, where there is one

@@ -1,8 +1,7 @@
 // Pages: where a text is written into room that was reserved, or where its bytes are counted.
 ghost use Rattle.std.specs.Prelude.{◌≡◌, ◌+◌, ◌-◌, ◌∷◌, ◌≤◌, Some, IfSome, vec_len, vec_capacity, option_map};
 ghost use Rattle.std.specs.Fmt.{decimal, signed_decimal};
-ghost use Rattle.dir_bytes.specs.Causes.{last_moment};
-ghost use Rattle.dir_bytes.specs.FieldTexts.{moment_text, address_text, hex_text, base64_text};
+ghost use Rattle.dir_bytes.specs.{Causes.last_moment, FieldTexts.{moment_text, address_text, hex_text, base64_text}};
 ghost use Rattle.item_terms.specs.Bytes.{space};
 ghost use Rattle.text_page.specs.Pages as pages;
 

@@ -1,7 +1,6 @@
 // Texts that are added to a vector which has room for them.
 ghost use Rattle.std.specs.Prelude.{◌≡◌, ◌+◌, ◌∷◌, ◌++◌, ◌≤◌, length, vec_len, vec_capacity};
-ghost use Rattle.dir_bytes.specs.Causes.{last_moment};
-ghost use Rattle.dir_bytes.specs.FieldTexts.{moment_text, hex_text, base64_text};
+ghost use Rattle.dir_bytes.specs.{Causes.last_moment, FieldTexts.{moment_text, hex_text, base64_text}};
 ghost use Rattle.item_terms.specs.Bytes.{space};
 
 use dir_bytes::{push_base64, push_hex_upper, push_time};

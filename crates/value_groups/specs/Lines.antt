@@ -4,8 +4,7 @@ use Rattle.std.specs.Prelude.{ℕ, Result, Ok}
 use Rattle.item_terms.specs.Items.{Item}
 use Rattle.dir_values.specs.Numbers.{number_of}
 use Rattle.frame_values.specs.Arguments.{arguments_of, front, others, field, next}
-use Rattle.value_groups.specs.declared.value.SharedRandom.{SharedRandom}
-use Rattle.value_groups.specs.Values.{padded_digest}
+use Rattle.value_groups.specs.{declared.value.SharedRandom.SharedRandom, Values.padded_digest}
 
 -- a count below 2 ^ 32, and a value
 abbrev pub random_of : Item → Result SharedRandom ℕ

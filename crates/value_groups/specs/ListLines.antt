@@ -2,12 +2,8 @@
 -- document formats").
 use Rattle.std.specs.Prelude.{ℕ, Result}
 use Rattle.item_terms.specs.Items.{Item}
-use Rattle.frame_values.specs.declared.found.Span.{Span}
-use Rattle.frame_values.specs.Arguments.{arguments_of}
-use Rattle.frame_values.specs.Lines.{rest_unless}
-use Rattle.list_values.specs.Params.{wrong_param}
-use Rattle.list_values.specs.Protocols.{wrong_protocol}
-use Rattle.list_values.specs.VersionLists.{wrong_version_list}
+use Rattle.frame_values.specs.{declared.found.Span.Span, Arguments.arguments_of, Lines.rest_unless}
+use Rattle.list_values.specs.{Params.wrong_param, Protocols.wrong_protocol, VersionLists.wrong_version_list}
 
 -- params, in any number, none of them twice
 abbrev pub params_of : Item → Result Span ℕ

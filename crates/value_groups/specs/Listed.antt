@@ -1,9 +1,7 @@
 -- What the texts of such lines list. Each text that is read lists something, so that nothing is lost.
 use Rattle.std.specs.Prelude.{ℕ, ℤ, List, [], Result, Ok, Err}
 use Rattle.dir_values.specs.declared.refusal.ValueRefusal.{ValueRefusal}
-use Rattle.list_values.specs.declared.named.Named.{Named}
-use Rattle.list_values.specs.Params.{params_of}
-use Rattle.list_values.specs.Protocols.{protocols_of}
+use Rattle.list_values.specs.{declared.named.Named.Named, Params.params_of, Protocols.protocols_of}
 use Rattle.list_values.specs.VersionLists.{version_list}
 
 -- the members of a list that was read, and none of one that could not be

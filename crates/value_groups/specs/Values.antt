@@ -1,12 +1,10 @@
 -- Shared random values: what their texts spell, and how they are written (dir-spec, "Vote and consensus status document
 -- formats").
 use Rattle.std.specs.Prelude.{ℕ, ◌==◌, Bool, ◌&&◌, List, [], ◌∷◌, ◌++◌, Option, length, slice_index, take, codes}
-use Rattle.std.specs.Prelude.{decimal, if◌then◌else◌}
-use Rattle.std.specs.Str.{bytes_eq}
+use Rattle.std.specs.{Prelude.{decimal, if◌then◌else◌}, Str.bytes_eq}
 use Rattle.item_terms.specs.Bytes.{space}
 use Rattle.dir_bytes.specs.FieldTexts.{base64_text}
-use Rattle.dir_values.specs.Digests.{digest2}
-use Rattle.dir_values.specs.declared.digest.Digest2.{Digest2}
+use Rattle.dir_values.specs.{Digests.digest2, declared.digest.Digest2.Digest2}
 use Rattle.value_groups.specs.declared.value.SharedRandom.{SharedRandom}
 
 -- the text without the one `=` that fills its 43 characters up to 44

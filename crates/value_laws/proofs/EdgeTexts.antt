@@ -1,20 +1,17 @@
 -- Numbers in the fewest ranges are written in no more bytes than their edges take, and their edges take no more than
 -- any ranges in which they are written.
 use Rattle.std.proofs.Common.{◌≡◌, ℕ, zero, suc, ◌+◌, ◌-◌, ◌<◌, ◌≤◌, Bool, true, false, cond, List, [], ◌∷◌, ◌++◌}
-use Rattle.std.proofs.Common.{length, map, refl, sym, ap, ◌∙◌, arith, length-append, ⊎_elim}
-use Rattle.std.specs.Prelude.{All, ◌==◌, ◌&&◌, ◌||◌, nat_le, filter, if◌then◌else◌}
-use Rattle.std.specs.Fmt.{decimal}
-use Rattle.std.specs.List.{range_with_len}
-use Rattle.std.proofs.lemmas.Bool.{cases_lt, eq-eqb, eqb-true, false≢true, le-leb, lt-leb}
-use Rattle.std.proofs.lemmas.List.Elements.{All-cons, All-filter, All-head, All-nil, All-tail}
-use Rattle.std.proofs.lemmas.List.FromFn.{get_or-range_with_len, length-range_with_len}
+use Rattle.std.proofs.{Common.{length, map, refl, sym, ap, ◌∙◌, arith, length-append, ⊎_elim}, lemmas.Bool.cases_lt}
+use Rattle.std.proofs.lemmas.{Bool.{eq-eqb, eqb-true, false≢true, le-leb, lt-leb}, List.Elements.{All-cons, All-filter}}
+use Rattle.std.proofs.lemmas.List.{Elements.{All-head, All-nil, All-tail}, FromFn.get_or-range_with_len}
+use Rattle.std.{proofs.lemmas.List.FromFn.length-range_with_len, specs.Prelude.{All, ◌==◌, ◌&&◌, ◌||◌, nat_le, filter}}
+use Rattle.std.specs.{Prelude.if◌then◌else◌, Fmt.decimal, List.range_with_len}
 use Rattle.item_terms.specs.Bytes.{comma, hyphen}
 use Rattle.list_values.specs.NumberSets.{Range, has_number, in_range, in_ranges, numbers_from, numbers_text}
 use Rattle.list_values.specs.NumberSets.{numbers_that, range_text, ranges_of, united_numbers, with_number}
 use Rattle.list_values.proofs.RangeLaws.{ranges_have}
 use Rattle.value_laws.proofs.Edges.{edges, either_edges, first_passes, is_edge, no_edges, run_edges, same_edges}
-use Rattle.value_laws.proofs.Edges.{size_if, size_of}
-use Rattle.value_laws.proofs.Rooms.{joined_room, room}
+use Rattle.value_laws.proofs.{Edges.{size_if, size_of}, Rooms.{joined_room, room}}
 
 -- ---- the text of a range
 

@@ -1,11 +1,8 @@
 -- The edges of a set of numbers: those of it that have none of it right before them, or none right behind them. They
 -- are the numbers that stand in its ranges.
-use Rattle.std.proofs.Common.{◌≡◌, ℕ, zero, suc, ◌+◌, ◌<◌, ◌≤◌, Bool, true, false, List, [], ◌∷◌, length}
-use Rattle.std.proofs.Common.{refl, sym, ap, ap₂, subst, ◌∙◌, arith, ⊎_elim}
-use Rattle.std.specs.Prelude.{◌&&◌, ◌||◌, not, if◌then◌else◌}
-use Rattle.std.specs.Fmt.{decimal}
-use Rattle.std.specs.List.{range_with_len}
-use Rattle.std.proofs.lemmas.Bool.{cases_lt, false≢true}
+use Rattle.std.proofs.Common.{◌≡◌, ℕ, zero, suc, ◌+◌, ◌<◌, ◌≤◌, Bool, true, false, List, [], ◌∷◌, length, refl, sym, ap}
+use Rattle.std.proofs.{Common.{ap₂, subst, ◌∙◌, arith, ⊎_elim}, lemmas.Bool.{cases_lt, false≢true}}
+use Rattle.std.specs.{Prelude.{◌&&◌, ◌||◌, not, if◌then◌else◌}, Fmt.decimal, List.range_with_len}
 
 -- how many bytes a number takes, with one behind it
 abbrev pub size_of : ℕ → ℕ

@@ -1,13 +1,9 @@
 -- Words with single spaces between them as the rest of a line, and of what bytes they are.
-use Rattle.std.proofs.Common.{◌≡◌, ℕ, true, List, [], ◌∷◌, ◌++◌, refl, sym, ap, ◌∙◌, subst}
-use Rattle.std.specs.Prelude.{All}
-use Rattle.std.specs.List.{join_with_byte}
-use Rattle.std.proofs.lemmas.Bool.{and_from, false≢true}
-use Rattle.std.proofs.lemmas.List.Elements.{All-head, All-tail}
-use Rattle.std.proofs.lemmas.List.Folds.{list_all-append}
+use Rattle.std.proofs.{Common.{◌≡◌, ℕ, true, List, [], ◌∷◌, ◌++◌, refl, sym, ap, ◌∙◌, subst}, lemmas.Bool.and_from}
+use Rattle.std.proofs.lemmas.{Bool.false≢true, List.{Elements.{All-head, All-tail}, Folds.list_all-append}}
+use Rattle.std.specs.{Prelude.All, List.join_with_byte}
 use Rattle.item_terms.specs.Bytes.{comma, space}
-use Rattle.dirdoc_grammar.specs.Writers.{is_argument}
-use Rattle.dirdoc_grammar.specs.Writing.{IsLineRest}
+use Rattle.dirdoc_grammar.specs.{Writers.is_argument, Writing.IsLineRest}
 use Rattle.grammar_laws.proofs.LineRests.{joined, rest_of_argument, rest_of_joined, rest_of_nothing}
 use Rattle.frame_laws.proofs.WordTexts.{AreWords, Dark, IsWord}
 

@@ -1,14 +1,10 @@
 -- Texts with a mark in them: what stands in front of it and behind it, and the parts between several.
 use Rattle.std.proofs.Common.{◌≡◌, ℕ, suc, ◌+◌, ◌<◌, ◌≤◌, Bool, true, false, List, [], ◌∷◌, ◌++◌, length, drop, get_or}
-use Rattle.std.proofs.Common.{refl, sym, ap, ◌∙◌, arith, ⊎_elim}
-use Rattle.std.specs.Prelude.{◌==◌, ◌||◌, All}
-use Rattle.std.specs.List.{join_with_byte, list_all, list_any, position_or_len}
-use Rattle.std.proofs.lemmas.Bool.{and_from, and_parts, cases_lt, eq-eqb, eqb-true, false≢true}
-use Rattle.std.proofs.lemmas.List.{drop_all, take_all, take_at}
-use Rattle.std.proofs.lemmas.List.Elements.{All-cons, All-head, All-nil, All-tail}
-use Rattle.std.proofs.lemmas.List.Folds.{list_all-append}
-use Rattle.std.proofs.lemmas.List.Splits.{slice_split_at, slice_split_none}
-use Rattle.std.proofs.lemmas.List.Sums.{passes_at_first, split_at_first}
+use Rattle.std.proofs.{Common.{refl, sym, ap, ◌∙◌, arith, ⊎_elim}, lemmas.Bool.{and_from, and_parts, cases_lt, eq-eqb}}
+use Rattle.std.proofs.lemmas.{Bool.{eqb-true, false≢true}, List.{drop_all, take_all, take_at, Elements.All-cons}}
+use Rattle.std.proofs.lemmas.List.{Elements.{All-head, All-nil, All-tail}, Folds.list_all-append, Splits.slice_split_at}
+use Rattle.std.proofs.lemmas.List.{Splits.slice_split_none, Sums.{passes_at_first, split_at_first}}
+use Rattle.std.specs.{Prelude.{◌==◌, ◌||◌, All}, List.{join_with_byte, list_all, list_any, position_or_len}}
 use Rattle.item_terms.specs.Bytes.{comma}
 use Rattle.dir_values.specs.Versions.{behind, front_of, has_mark}
 use Rattle.list_values.specs.Parts.{is_comma, parts_of}

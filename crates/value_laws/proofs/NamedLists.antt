@@ -1,19 +1,14 @@
 -- Values that ascend by name: none of the names is wrong, and values that are put in one after the other stand in that
 -- order.
 use Rattle.std.proofs.Common.{◌≡◌, ℕ, true, List, [], ◌∷◌, ◌++◌, length, map, None, refl, sym, ap, ◌∙◌, subst}
-use Rattle.std.proofs.Common.{append-nil, append_assoc, length-append, arith}
-use Rattle.std.specs.Prelude.{All}
+use Rattle.std.proofs.{Common.{append-nil, append_assoc, length-append, arith}, lemmas.List.get_or_append_left}
+use Rattle.std.{proofs.lemmas.List.{get_or_at, Elements.{All-cons, All-head, All-nil, All-tail}}, specs.Prelude.All}
 use Rattle.std.specs.List.{fold}
-use Rattle.std.proofs.lemmas.List.{get_or_append_left, get_or_at}
-use Rattle.std.proofs.lemmas.List.Elements.{All-cons, All-head, All-nil, All-tail}
-use Rattle.dir_values.specs.Arguments.{Argument, texts_of}
-use Rattle.dir_values.specs.Digests.{bytes_below}
+use Rattle.dir_values.specs.{Arguments.{Argument, texts_of}, Digests.bytes_below, FlagSets.{is_name, wrong_flag}}
+use Rattle.dir_values.proofs.{ListedFlags.{Ascends, ascends_first, ascends_next, none_wrong}, Orders.AllPairs-cons}
+use Rattle.dir_values.proofs.Orders.{AllPairs-head, AllPairs-nil, AllPairs-tail, apart}
 use Rattle.dir_values.specs.FlagSets as flag_sets
-use Rattle.dir_values.specs.FlagSets.{is_name, wrong_flag}
-use Rattle.dir_values.proofs.ListedFlags.{Ascends, ascends_first, ascends_next, none_wrong}
-use Rattle.dir_values.proofs.Orders.{AllPairs-cons, AllPairs-head, AllPairs-nil, AllPairs-tail, apart}
-use Rattle.list_values.specs.declared.named.Named.{Named}
-use Rattle.list_values.specs.Maps.{Ascend, names_of, value_at, with_value}
+use Rattle.list_values.specs.{declared.named.Named.Named, Maps.{Ascend, names_of, value_at, with_value}}
 
 abbrev Below : List ℕ → List ℕ → Type 0
 Below earlier later = bytes_below earlier later ≡ true

@@ -1,15 +1,11 @@
 -- Ascending numbers from 0 to 63 are the set of themselves.
-use Rattle.std.proofs.Common.{◌≡◌, ℕ, zero, suc, ◌+◌, ◌<◌, ◌≤◌, Bool, true, false, cond, List, [], ◌∷◌, refl, sym}
-use Rattle.std.proofs.Common.{ap, ◌∙◌, arith, ⊎_elim}
-use Rattle.std.specs.Prelude.{All, AllPairs, ◌==◌, ◌||◌, filter}
-use Rattle.std.specs.List.{range_with_len}
-use Rattle.std.proofs.lemmas.Bool.{cases_order, eq-eqb, ne_eqb}
-use Rattle.std.proofs.lemmas.List.Elements.{All-cons, All-head, All-nil, All-tail}
+use Rattle.std.proofs.Common.{◌≡◌, ℕ, zero, suc, ◌+◌, ◌<◌, ◌≤◌, Bool, true, false, cond, List, [], ◌∷◌, refl, sym, ap}
+use Rattle.std.proofs.{Common.{◌∙◌, arith, ⊎_elim}, lemmas.{Bool.{cases_order, eq-eqb, ne_eqb}, List.Elements.All-cons}}
+use Rattle.std.{proofs.lemmas.List.Elements.{All-head, All-nil, All-tail}, specs.Prelude.{All, AllPairs, ◌==◌, ◌||◌}}
+use Rattle.std.specs.{Prelude.filter, List.range_with_len}
 use Rattle.dir_values.proofs.Orders.{AllPairs-cons, AllPairs-head, AllPairs-nil, AllPairs-tail}
-use Rattle.list_values.specs.Masks.{is_set}
-use Rattle.list_values.specs.NumberSets.{has_number, numbers_from, numbers_that}
-use Rattle.value_laws.specs.Again.{KeptNumbersAreInRange}
-use Rattle.value_laws.specs.Ranges.{AreNumbersInRange}
+use Rattle.list_values.specs.{Masks.is_set, NumberSets.{has_number, numbers_from, numbers_that}}
+use Rattle.value_laws.specs.{Again.KeptNumbersAreInRange, Ranges.AreNumbersInRange}
 
 abbrev Less : ℕ → ℕ → Type 0
 Less earlier later = earlier < later

@@ -1,28 +1,19 @@
 -- The canonical text of the params that a text lists is no longer than that text.
-use Rattle.std.proofs.Common.{◌≡◌, ℕ, ◌+◌, ◌<◌, ◌≤◌, Bool, true, false, List, [], ◌∷◌, ◌++◌, length, map}
-use Rattle.std.proofs.Common.{Option, Some, None, ℤ, pos, refl, ap, subst, arith, length-append}
-use Rattle.std.specs.Prelude.{All, ◌&&◌, is_some, not, unwrap_or, if◌then◌else◌}
-use Rattle.std.specs.Fmt.{signed_decimal}
-use Rattle.std.specs.List.{fold}
+use Rattle.std.proofs.Common.{◌≡◌, ℕ, ◌+◌, ◌<◌, ◌≤◌, Bool, true, false, List, [], ◌∷◌, ◌++◌, length, map, Option, Some}
+use Rattle.std.proofs.{Common.{None, ℤ, pos, refl, ap, subst, arith, length-append}, lemmas.Bool.and_parts}
+use Rattle.std.proofs.lemmas.{Bool.false≢true, List.Elements.{All-cons, All-head, All-nil, All-tail}}
+use Rattle.std.specs.{Prelude.{All, ◌&&◌, is_some, not, unwrap_or, if◌then◌else◌}, Fmt.signed_decimal, List.fold}
 use Rattle.std.specs.Str.{bytes_eq}
-use Rattle.std.proofs.lemmas.Bool.{and_parts, false≢true}
-use Rattle.std.proofs.lemmas.List.Elements.{All-cons, All-head, All-nil, All-tail}
-use Rattle.item_terms.specs.Bytes.{space}
-use Rattle.item_terms.specs.Words.{words_of}
-use Rattle.dir_values.specs.Arguments.{Argument, arguments_at, texts_of}
-use Rattle.dir_values.specs.Digests.{bytes_below}
-use Rattle.dir_values.specs.FlagSets.{is_among, is_name, unless_wrong, wrong_flag}
-use Rattle.dir_values.specs.Versions.{has_mark}
+use Rattle.item_terms.specs.{Bytes.space, Words.words_of}
+use Rattle.dir_values.specs.{Arguments.{Argument, arguments_at, texts_of}, Digests.bytes_below, FlagSets.is_among}
+use Rattle.dir_values.specs.{FlagSets.{is_name, unless_wrong, wrong_flag}, Versions.has_mark}
 use Rattle.dir_values.proofs.ArgumentWords.{arguments_words}
-use Rattle.list_values.specs.declared.named.Named.{Named}
-use Rattle.list_values.specs.Equations.{equals, left_side, right_side}
-use Rattle.list_values.specs.Maps.{named_value, with_value}
-use Rattle.list_values.specs.Params.{as_params, its_name, name_in, number_in, param_text, params_text, with_param}
-use Rattle.list_values.specs.Params.{wrong_param}
+use Rattle.list_values.specs.{declared.named.Named.Named, Equations.{equals, left_side, right_side}, Maps.named_value}
+use Rattle.list_values.specs.{Maps.with_value, Params.{as_params, its_name, name_in, number_in, param_text}}
+use Rattle.list_values.specs.Params.{params_text, with_param, wrong_param}
 use Rattle.value_groups.specs.Listed.{members_of}
-use Rattle.value_laws.specs.Lengths.{ParamsAreNoLonger}
-use Rattle.value_laws.proofs.Rooms.{joined_room, nothing_behind, room, sides_of, words_room}
-use Rattle.value_laws.proofs.Spelled.{signed_spelled}
+use Rattle.value_laws.{specs.Lengths.ParamsAreNoLonger, proofs.Rooms.{joined_room, nothing_behind, room, sides_of}}
+use Rattle.value_laws.proofs.{Rooms.words_room, Spelled.signed_spelled}
 
 -- ---- one param more
 

@@ -1,30 +1,19 @@
 -- Params that were written are read again.
-use Rattle.std.proofs.Common.{◌≡◌, ℕ, ◌+◌, true, false, List, [], ◌∷◌, ◌++◌, length, map, Option, Some, None, ℤ}
-use Rattle.std.proofs.Common.{pos, negsuc, suc, refl, sym, ap, ap₂, ◌∙◌, subst, arith, length-append}
-use Rattle.std.specs.Prelude.{All, is_some, nat_le, unwrap_or, ◌==◌, if◌then◌else◌}
-use Rattle.std.specs.Fmt.{signed_decimal}
-use Rattle.std.specs.List.{list_all}
-use Rattle.std.proofs.lemmas.Bool.{and_from}
-use Rattle.std.proofs.lemmas.Bool.Decides.{nat_tests}
-use Rattle.std.proofs.lemmas.List.Elements.{All-cons, All-head, All-nil, All-tail}
-use Rattle.dir_bytes.proofs.ReadAgain.{signed-signed_decimal}
-use Rattle.dir_bytes.specs.Fields.{signed_number}
-use Rattle.dir_values.specs.Arguments.{texts_of}
-use Rattle.dir_values.specs.FlagSets.{is_name, is_name_byte, unless_wrong}
+use Rattle.std.proofs.Common.{◌≡◌, ℕ, ◌+◌, true, false, List, [], ◌∷◌, ◌++◌, length, map, Option, Some, None, ℤ, pos}
+use Rattle.std.proofs.{Common.{negsuc, suc, refl, sym, ap, ap₂, ◌∙◌, subst, arith, length-append}, lemmas.Bool.and_from}
+use Rattle.std.proofs.lemmas.{Bool.Decides.nat_tests, List.Elements.{All-cons, All-head, All-nil, All-tail}}
+use Rattle.std.specs.{Prelude.{All, is_some, nat_le, unwrap_or, ◌==◌, if◌then◌else◌}, Fmt.signed_decimal, List.list_all}
+use Rattle.dir_bytes.{proofs.ReadAgain.signed-signed_decimal, specs.Fields.signed_number}
+use Rattle.dir_values.specs.{Arguments.texts_of, FlagSets.{is_name, is_name_byte, unless_wrong}}
 use Rattle.dir_values.specs.FlagSets as flag_sets
 use Rattle.dirdoc_grammar.specs.Writers.{is_argument}
 use Rattle.frame_laws.proofs.WordTexts.{AreWords, Dark, IsWord, all_three, both_dark, bytes_of, is_word, number_dark}
-use Rattle.frame_laws.proofs.WordTexts.{word_of_flag}
-use Rattle.frame_laws.proofs.Words.{arguments_of_words, placed, words_of-join}
-use Rattle.list_values.specs.declared.named.Named.{Named}
-use Rattle.list_values.specs.Equations.{equals, left_side}
-use Rattle.list_values.specs.Maps.{names_of, with_value}
-use Rattle.list_values.specs.Params.{as_params, its_name, name_in, number_in, param_text, params_text}
-use Rattle.list_values.specs.Params.{with_param, wrong_param}
-use Rattle.value_laws.specs.Again.{ParamsAreReadAgain, ParamsAreRight, ParamsFillLines}
-use Rattle.value_laws.specs.Ranges.{IsParamInRange}
-use Rattle.value_laws.proofs.LineWords.{rest_of_words}
-use Rattle.value_laws.proofs.Marks.{Lacks, behind_again, front_again, lacks_if}
+use Rattle.frame_laws.proofs.{WordTexts.word_of_flag, Words.{arguments_of_words, placed, words_of-join}}
+use Rattle.list_values.specs.{declared.named.Named.Named, Equations.{equals, left_side}, Maps.{names_of, with_value}}
+use Rattle.list_values.specs.Params.{as_params, its_name, name_in, number_in, param_text, params_text, with_param}
+use Rattle.list_values.specs.Params.{wrong_param}
+use Rattle.value_laws.specs.{Again.{ParamsAreReadAgain, ParamsAreRight, ParamsFillLines}, Ranges.IsParamInRange}
+use Rattle.value_laws.proofs.{LineWords.rest_of_words, Marks.{Lacks, behind_again, front_again, lacks_if}}
 use Rattle.value_laws.proofs.NamedLists.{AreBefore, IsName, made_again, names_ascend, none_is_wrong, put_last}
 
 -- ---- a name in front of `=`

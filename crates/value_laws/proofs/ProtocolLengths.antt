@@ -1,33 +1,20 @@
 -- The canonical text of the versions of protocols that a text lists is no longer than that text.
-use Rattle.std.proofs.Common.{◌≡◌, ℕ, ◌+◌, ◌-◌, ◌<◌, ◌≤◌, Bool, true, false, List, [], ◌∷◌, length, map}
-use Rattle.std.proofs.Common.{Option, Some, None, refl, sym, ap, subst, ◌∙◌, arith, length-append}
-use Rattle.std.specs.Prelude.{All, not, option_map, unwrap_or}
-use Rattle.std.specs.Prelude.{if◌then◌else◌}
-use Rattle.std.specs.List.{find, fold}
-use Rattle.std.specs.Str.{bytes_eq}
-use Rattle.std.proofs.lemmas.Bool.{and_parts, false≢true}
-use Rattle.std.proofs.lemmas.List.Elements.{All-cons, All-head, All-nil, All-tail, All-weaker}
-use Rattle.item_terms.specs.Bytes.{space}
-use Rattle.item_terms.specs.Words.{words_of}
-use Rattle.dir_values.specs.Arguments.{Argument, arguments_at, texts_of}
-use Rattle.dir_values.specs.Digests.{bytes_below}
-use Rattle.dir_values.specs.FlagSets.{unless_wrong}
-use Rattle.dir_values.specs.Versions.{has_mark}
-use Rattle.dir_values.proofs.ArgumentWords.{arguments_words}
-use Rattle.dir_values.proofs.Orders.{AllPairs-head, AllPairs-tail, apart, apart_back, below-trans, below_or_same}
-use Rattle.list_values.specs.declared.named.Named.{Named}
-use Rattle.list_values.specs.Equations.{equals, left_side, right_side}
-use Rattle.list_values.specs.Maps.{Ascend, has_name, named_value, value_at, with_value}
-use Rattle.list_values.specs.NumberSets.{in_ranges, numbers_text, united_numbers}
-use Rattle.list_values.specs.Protocols.{as_protocols, is_protocol, numbers_at, numbers_in}
-use Rattle.list_values.specs.Protocols.{protocol_text, protocols_text, ranges_in, with_protocol}
-use Rattle.list_values.specs.Protocols.{wrong_protocol}
+use Rattle.std.proofs.Common.{◌≡◌, ℕ, ◌+◌, ◌-◌, ◌<◌, ◌≤◌, Bool, true, false, List, [], ◌∷◌, length, map, Option, Some}
+use Rattle.std.proofs.{Common.{None, refl, sym, ap, subst, ◌∙◌, arith, length-append}, lemmas.Bool.and_parts}
+use Rattle.std.proofs.lemmas.{Bool.false≢true, List.Elements.{All-cons, All-head, All-nil, All-tail, All-weaker}}
+use Rattle.std.specs.{Prelude.{All, not, option_map, unwrap_or, if◌then◌else◌}, List.{find, fold}, Str.bytes_eq}
+use Rattle.item_terms.specs.{Bytes.space, Words.words_of}
+use Rattle.dir_values.specs.{Arguments.{Argument, arguments_at, texts_of}, Digests.bytes_below, FlagSets.unless_wrong}
+use Rattle.dir_values.{specs.Versions.has_mark, proofs.{ArgumentWords.arguments_words, Orders.AllPairs-head}}
+use Rattle.dir_values.proofs.Orders.{AllPairs-tail, apart, apart_back, below-trans, below_or_same}
+use Rattle.list_values.specs.{declared.named.Named.Named, Equations.{equals, left_side, right_side}, Maps.Ascend}
+use Rattle.list_values.specs.{Maps.{has_name, named_value, value_at, with_value}, NumberSets.{in_ranges, numbers_text}}
+use Rattle.list_values.specs.{NumberSets.united_numbers, Protocols.{as_protocols, is_protocol, numbers_at, numbers_in}}
+use Rattle.list_values.specs.Protocols.{protocol_text, protocols_text, ranges_in, with_protocol, wrong_protocol}
 use Rattle.list_values.proofs.Maps.{Ascend-nil, Ascend-with_value}
 use Rattle.value_groups.specs.Listed.{members_of}
-use Rattle.value_laws.specs.Lengths.{ProtocolsAreNoLonger}
-use Rattle.value_laws.proofs.EdgeTexts.{IsSmall, kept_small}
-use Rattle.value_laws.proofs.EdgeTexts.{set_room, set_text_room, united_short}
-use Rattle.value_laws.proofs.Rooms.{joined_room, room, sides_of, words_room}
+use Rattle.value_laws.{specs.Lengths.ProtocolsAreNoLonger, proofs.EdgeTexts.{IsSmall, kept_small, set_room}}
+use Rattle.value_laws.proofs.{EdgeTexts.{set_text_room, united_short}, Rooms.{joined_room, room, sides_of, words_room}}
 use Rattle.value_laws.proofs.SpelledRanges.{list_short}
 
 -- ---- one protocol more

@@ -1,31 +1,20 @@
 -- Versions of protocols that were written are read again.
 use Rattle.std.proofs.Common.{◌≡◌, ℕ, ◌+◌, true, List, [], ◌∷◌, ◌++◌, length, map, Option, Some, None, refl, ap, ap₂}
-use Rattle.std.proofs.Common.{◌∙◌, Bool}
-use Rattle.std.specs.Prelude.{All, cond, is_some, not, unwrap_or}
-use Rattle.std.specs.List.{find}
+use Rattle.std.proofs.{Common.{◌∙◌, Bool}, lemmas.{Bool.and_from, List.Elements.{All-cons, All-head, All-nil}}}
+use Rattle.std.{proofs.lemmas.List.Elements.All-tail, specs.{Prelude.{All, cond, is_some, not, unwrap_or}, List.find}}
 use Rattle.std.specs.Option.{option_map}
-use Rattle.std.proofs.lemmas.Bool.{and_from}
-use Rattle.std.proofs.lemmas.List.Elements.{All-cons, All-head, All-nil, All-tail}
-use Rattle.dir_values.specs.Arguments.{Argument}
-use Rattle.dir_values.specs.FlagSets.{is_name, unless_wrong}
-use Rattle.frame_laws.proofs.WordTexts.{AreWords, IsWord}
-use Rattle.frame_laws.proofs.Words.{arguments_of_words, placed, words_of-join}
-use Rattle.list_values.specs.declared.named.Named.{Named}
-use Rattle.list_values.specs.Equations.{equals, left_side, right_side}
-use Rattle.list_values.specs.Maps.{with_value}
-use Rattle.list_values.specs.NumberSets.{Range, has_number, in_ranges, numbers_text, numbers_that, ranges_of, united_numbers}
-use Rattle.list_values.specs.Protocols.{as_protocols, is_protocol, numbers_at, numbers_in, protocol_text}
-use Rattle.list_values.specs.Protocols.{ranges_in, with_protocol, wrong_protocol}
-use Rattle.list_values.proofs.NumberLists.{same_numbers}
-use Rattle.list_values.proofs.RangeLaws.{ranges_have}
+use Rattle.dir_values.specs.{Arguments.Argument, FlagSets.{is_name, unless_wrong}}
+use Rattle.frame_laws.proofs.{WordTexts.{AreWords, IsWord}, Words.{arguments_of_words, placed, words_of-join}}
+use Rattle.list_values.specs.{declared.named.Named.Named, Equations.{equals, left_side, right_side}, Maps.with_value}
+use Rattle.list_values.specs.NumberSets.{Range, has_number, in_ranges, numbers_text, numbers_that, ranges_of}
+use Rattle.list_values.specs.{NumberSets.united_numbers, Protocols.{as_protocols, is_protocol, numbers_at, numbers_in}}
+use Rattle.list_values.specs.Protocols.{protocol_text, ranges_in, with_protocol, wrong_protocol}
+use Rattle.list_values.proofs.{NumberLists.same_numbers, RangeLaws.ranges_have}
 use Rattle.value_laws.specs.Again.{ProtocolsAreReadAgain, ProtocolsAreRight, ProtocolsFillLines}
-use Rattle.value_laws.specs.Ranges.{IsProtocolInRange}
-use Rattle.value_laws.proofs.LineWords.{rest_of_words}
-use Rattle.value_laws.proofs.Marks.{behind_again, front_again, mark_is_there}
-use Rattle.value_laws.proofs.NamedLists.{AreBefore, made_again, none_yet, put_last}
-use Rattle.value_laws.proofs.NumbersAlone.{numbers_alone}
-use Rattle.value_laws.proofs.ParamsAgain.{name_lacks, word_of_equation}
-use Rattle.value_laws.proofs.RangesAgain.{numbers_dark, numbers_spelled}
+use Rattle.value_laws.{specs.Ranges.IsProtocolInRange, proofs.{LineWords.rest_of_words, Marks.behind_again}}
+use Rattle.value_laws.proofs.{Marks.{front_again, mark_is_there}, NamedLists.{AreBefore, made_again, none_yet}}
+use Rattle.value_laws.proofs.{NamedLists.put_last, NumbersAlone.numbers_alone, ParamsAgain.name_lacks}
+use Rattle.value_laws.proofs.{ParamsAgain.word_of_equation, RangesAgain.{numbers_dark, numbers_spelled}}
 
 -- ---- one protocol
 

@@ -1,26 +1,19 @@
 -- Ranges of numbers from 0 to 63 that were written are read again.
-use Rattle.std.proofs.Common.{◌≡◌, ℕ, ◌+◌, ◌<◌, ◌≤◌, Bool, true, false, List, [], ◌∷◌, ◌++◌, length, map}
-use Rattle.std.proofs.Common.{Option, Some, None, refl, ap, ap₂, ◌∙◌, arith, length-append, ⊎_elim}
-use Rattle.std.specs.Prelude.{All, ◌==◌, option_and_then, if◌then◌else◌}
-use Rattle.std.specs.Char.{is_ascii_digit}
-use Rattle.std.specs.Fmt.{decimal}
-use Rattle.std.specs.List.{join_with_byte}
-use Rattle.std.specs.Option.{option_map}
-use Rattle.std.specs.Str.{all_ascii_digits}
-use Rattle.std.proofs.lemmas.Bool.{and_from, and_parts, cases_Bool, eqb-true, le-leb}
-use Rattle.std.proofs.lemmas.Bool.Decides.{nat_tests}
-use Rattle.std.proofs.lemmas.Fmt.{decimal_nonempty}
-use Rattle.std.proofs.lemmas.List.Elements.{All-append, All-cons, All-head, All-nil, All-tail}
-use Rattle.std.proofs.lemmas.List.Folds.{list_any_none}
+use Rattle.std.proofs.Common.{◌≡◌, ℕ, ◌+◌, ◌<◌, ◌≤◌, Bool, true, false, List, [], ◌∷◌, ◌++◌, length, map, Option, Some}
+use Rattle.std.proofs.{Common.{None, refl, ap, ap₂, ◌∙◌, arith, length-append, ⊎_elim}, lemmas.Bool.and_from}
+use Rattle.std.proofs.lemmas.{Bool.{and_parts, cases_Bool, eqb-true, le-leb, Decides.nat_tests}, Fmt.decimal_nonempty}
+use Rattle.std.proofs.lemmas.List.{Elements.{All-append, All-cons, All-head, All-nil, All-tail}, Folds.list_any_none}
+use Rattle.std.specs.{Prelude.{All, ◌==◌, option_and_then, if◌then◌else◌}, Char.is_ascii_digit, Fmt.decimal}
+use Rattle.std.specs.{List.join_with_byte, Option.option_map, Str.all_ascii_digits}
 use Rattle.dir_bytes.proofs.ReadAgain.{decimal_digits, number-decimal}
 use Rattle.dir_values.specs.Versions.{behind, front_of, has_mark}
 use Rattle.frame_laws.proofs.WordTexts.{Dark, both_dark, number_dark}
 use Rattle.item_terms.specs.Bytes.{comma, hyphen}
-use Rattle.list_values.specs.NumberSets.{Range, numbers_text, range_text, ranges_of, with_number}
-use Rattle.list_values.specs.Parts.{is_comma, parts_of}
-use Rattle.list_values.specs.Protocols.{all_of, if_small, listed_number, range_between, range_of, ranges_in}
-use Rattle.value_laws.proofs.LineWords.{dark_with_commas}
-use Rattle.value_laws.proofs.Marks.{Lacks, LacksComma, behind_again, front_again, mark_is_there, parts_again}
+use Rattle.list_values.specs.{NumberSets.{Range, numbers_text, range_text, ranges_of, with_number}, Parts.is_comma}
+use Rattle.list_values.specs.{Parts.parts_of, Protocols.{all_of, if_small, listed_number, range_between, range_of}}
+use Rattle.list_values.specs.Protocols.{ranges_in}
+use Rattle.value_laws.proofs.{LineWords.dark_with_commas, Marks.{Lacks, LacksComma, behind_again, front_again}}
+use Rattle.value_laws.proofs.Marks.{mark_is_there, parts_again}
 
 -- what a range of such numbers keeps
 record IsRange (range : Range) : Type 0 where

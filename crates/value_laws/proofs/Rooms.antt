@@ -1,11 +1,8 @@
 -- How long texts are that are joined, and texts that have a mark.
-use Rattle.std.proofs.Common.{◌≡◌, ℕ, ◌+◌, ◌-◌, ◌<◌, ◌≤◌, Bool, true, false, List, [], ◌∷◌, length, get_or}
-use Rattle.std.proofs.Common.{refl, sym, ap, arith, length-append}
-use Rattle.std.specs.Prelude.{◌==◌, ◌||◌, if◌then◌else◌}
+use Rattle.std.proofs.Common.{◌≡◌, ℕ, ◌+◌, ◌-◌, ◌<◌, ◌≤◌, Bool, true, false, List, [], ◌∷◌, length, get_or, refl, sym}
+use Rattle.std.proofs.{Common.{ap, arith, length-append}, lemmas.{Bool.false≢true, List.drop_all}}
+use Rattle.std.{proofs.lemmas.List.Sums.split_at_first, specs.Prelude.{◌==◌, ◌||◌, if◌then◌else◌}}
 use Rattle.std.specs.List.{join_with_byte, list_any, position_or_len}
-use Rattle.std.proofs.lemmas.Bool.{false≢true}
-use Rattle.std.proofs.lemmas.List.{drop_all}
-use Rattle.std.proofs.lemmas.List.Sums.{split_at_first}
 use Rattle.item_terms.specs.Words.{ends_or_blank, is_blank, onto_word, words_of}
 use Rattle.dir_values.specs.Versions.{behind, front_of, has_mark}
 

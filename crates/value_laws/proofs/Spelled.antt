@@ -1,14 +1,10 @@
 -- A number that was read is written in no more digits.
-use Rattle.std.proofs.Common.{◌≡◌, ℕ, zero, suc, ◌+◌, ◌<◌, ◌≤◌, Bool, true, false, List, length, drop}
-use Rattle.std.proofs.Common.{Option, Some, None, ℤ, pos, refl, subst, arith}
-use Rattle.std.specs.Prelude.{◌&&◌, ◌^◌, nat_le, nat_lt, neg_ℤ, option_map, if◌then◌else◌}
-use Rattle.std.specs.Fmt.{decimal, signed_decimal}
-use Rattle.std.specs.Str.{all_ascii_digits}
-use Rattle.std.specs.Str.Parse.{digits_value, starts_with_minus}
-use Rattle.std.proofs.lemmas.Bool.{and_parts, leb-true, ltb-true}
-use Rattle.std.proofs.lemmas.Fmt.{length-decimal-le}
-use Rattle.std.proofs.lemmas.List.{length-drop}
-use Rattle.std.proofs.lemmas.Str.Parse.{digits_value_short, numerals_by_value, tells_all_ascii_digits}
+use Rattle.std.proofs.Common.{◌≡◌, ℕ, zero, suc, ◌+◌, ◌<◌, ◌≤◌, Bool, true, false, List, length, drop, Option, Some}
+use Rattle.std.proofs.{Common.{None, ℤ, pos, refl, subst, arith}, lemmas.Bool.{and_parts, leb-true, ltb-true}}
+use Rattle.std.proofs.lemmas.{Fmt.length-decimal-le, List.length-drop, Str.Parse.digits_value_short}
+use Rattle.std.{proofs.lemmas.Str.Parse.{numerals_by_value, tells_all_ascii_digits}, specs.Prelude.{◌&&◌, ◌^◌, nat_le}}
+use Rattle.std.specs.{Prelude.{nat_lt, neg_ℤ, option_map, if◌then◌else◌}, Fmt.{decimal, signed_decimal}}
+use Rattle.std.specs.Str.{all_ascii_digits, Parse.{digits_value, starts_with_minus}}
 use Rattle.dir_bytes.specs.Fields.{is_numeral, number, signed_number}
 
 same_some : (a b : ℕ) → Some a ≡ Some b → a ≡ b

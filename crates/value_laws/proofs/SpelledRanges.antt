@@ -1,23 +1,14 @@
 -- Ranges of numbers from 0 to 63 that were read are written in no more bytes.
-use Rattle.std.proofs.Common.{◌≡◌, ℕ, ◌<◌, ◌≤◌, Bool, true, false, List, [], ◌∷◌, length, map}
-use Rattle.std.proofs.Common.{Option, Some, None, refl, sym, ap, subst, ◌∙◌, arith}
-use Rattle.std.specs.Prelude.{All, nat_le, option_and_then, option_map, unwrap_or}
-use Rattle.std.specs.Prelude.{if◌then◌else◌}
-use Rattle.std.specs.Fmt.{decimal}
-use Rattle.std.proofs.lemmas.Bool.{leb-true}
-use Rattle.std.proofs.lemmas.List.Elements.{All-cons, All-nil}
-use Rattle.std.proofs.lemmas.List.Splits.{join_with_byte-slice_split}
+use Rattle.std.proofs.Common.{◌≡◌, ℕ, ◌<◌, ◌≤◌, Bool, true, false, List, [], ◌∷◌, length, map, Option, Some, None, refl}
+use Rattle.std.proofs.{Common.{sym, ap, subst, ◌∙◌, arith}, lemmas.{Bool.leb-true, List.Elements.{All-cons, All-nil}}}
+use Rattle.std.{proofs.lemmas.List.Splits.join_with_byte-slice_split, specs.Prelude.{All, nat_le, option_and_then}}
+use Rattle.std.specs.{Prelude.{option_map, unwrap_or, if◌then◌else◌}, Fmt.decimal}
 use Rattle.item_terms.specs.Bytes.{comma, hyphen}
-use Rattle.dir_values.specs.Numbers.{number_of}
-use Rattle.dir_values.specs.Versions.{behind, front_of, has_mark}
-use Rattle.list_values.specs.NumberSets.{Range, in_ranges, numbers_text, numbers_that, range_text}
-use Rattle.list_values.specs.Parts.{parts_of}
-use Rattle.list_values.specs.Protocols.{all_of, if_small, listed_number}
-use Rattle.list_values.specs.Protocols.{range_between, range_of, ranges_in}
-use Rattle.value_laws.proofs.EdgeTexts.{IsHigh, numbers_short, range_most, range_single}
-use Rattle.value_laws.proofs.EdgeTexts.{ranges_edges, ranges_room}
-use Rattle.value_laws.proofs.Rooms.{joined_room, room, sides_of}
-use Rattle.value_laws.proofs.Spelled.{number_spelled}
+use Rattle.dir_values.specs.{Numbers.number_of, Versions.{behind, front_of, has_mark}}
+use Rattle.list_values.specs.{NumberSets.{Range, in_ranges, numbers_text, numbers_that, range_text}, Parts.parts_of}
+use Rattle.list_values.specs.Protocols.{all_of, if_small, listed_number, range_between, range_of, ranges_in}
+use Rattle.value_laws.proofs.EdgeTexts.{IsHigh, numbers_short, range_most, range_single, ranges_edges, ranges_room}
+use Rattle.value_laws.proofs.{Rooms.{joined_room, room, sides_of}, Spelled.number_spelled}
 
 -- ---- what texts spell
 

@@ -1,22 +1,15 @@
 -- The bytes of a version: digits, stops, hyphens and those of tags. So it is a word, and no comma stands in it.
 use Rattle.std.proofs.Common.{◌≡◌, ℕ, ◌<◌, Bool, true, false, List, [], ◌∷◌, length, Option, Some, None, refl, ap}
-use Rattle.std.proofs.Common.{arith}
-use Rattle.std.specs.Prelude.{is_some, nat_le, ◌&&◌, if◌then◌else◌}
-use Rattle.std.specs.Char.{is_ascii_digit}
-use Rattle.std.specs.List.{list_all}
-use Rattle.std.specs.Str.{all_ascii_digits}
-use Rattle.std.specs.Str.Parse.{digits_value}
-use Rattle.std.proofs.lemmas.Bool.{and_from, and_parts, false≢true}
-use Rattle.std.proofs.lemmas.Bool.Decides.{nat_tests}
+use Rattle.std.proofs.{Common.arith, lemmas.Bool.{and_from, and_parts, false≢true, Decides.nat_tests}}
+use Rattle.std.specs.{Prelude.{is_some, nat_le, ◌&&◌, if◌then◌else◌}, Char.is_ascii_digit, List.list_all}
+use Rattle.std.specs.Str.{all_ascii_digits, Parse.digits_value}
 use Rattle.dir_bytes.specs.Fields.{is_numeral, number}
 use Rattle.item_terms.specs.Bytes.{hyphen}
-use Rattle.dir_values.specs.Numbers.{number_of}
-use Rattle.dir_values.specs.Versions.{behind, front_of, full_stop, has_mark, is_tag, is_tag_byte, patch_in, tag_in}
-use Rattle.dir_values.specs.Versions.{version_by, version_with}
+use Rattle.dir_values.specs.{Numbers.number_of, Versions.{behind, front_of, full_stop, has_mark, is_tag, is_tag_byte}}
+use Rattle.dir_values.specs.Versions.{patch_in, tag_in, version_by, version_with}
 use Rattle.dirdoc_grammar.specs.Writers.{is_argument, is_argument_byte}
 use Rattle.frame_laws.proofs.WordTexts.{is_word, weaker}
-use Rattle.list_values.specs.Parts.{is_comma}
-use Rattle.list_values.specs.VersionLists.{is_version}
+use Rattle.list_values.specs.{Parts.is_comma, VersionLists.is_version}
 use Rattle.value_laws.proofs.Marks.{LacksComma, across, lacks_if, nothing_behind}
 
 -- the bytes are those of versions

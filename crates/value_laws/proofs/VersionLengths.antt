@@ -1,18 +1,13 @@
 -- The canonical text of the versions of Tor that a text lists is no longer than that text.
-use Rattle.std.proofs.Common.{ℕ, ◌+◌, ◌≤◌, Bool, true, false, List, [], ◌∷◌, length, Some, None, sym, ap}
-use Rattle.std.proofs.Common.{subst, arith}
-use Rattle.std.specs.Prelude.{if◌then◌else◌}
-use Rattle.std.proofs.lemmas.List.Splits.{join_with_byte-slice_split}
+use Rattle.std.proofs.Common.{ℕ, ◌+◌, ◌≤◌, Bool, true, false, List, [], ◌∷◌, length, Some, None, sym, ap, subst, arith}
+use Rattle.std.{proofs.lemmas.List.Splits.join_with_byte-slice_split, specs.Prelude.if◌then◌else◌}
 use Rattle.item_terms.specs.Bytes.{comma}
-use Rattle.dir_values.specs.Arguments.{Argument, arguments_at, texts_of}
-use Rattle.dir_values.specs.FlagSets.{unless_wrong}
+use Rattle.dir_values.specs.{Arguments.{Argument, arguments_at, texts_of}, FlagSets.unless_wrong}
 use Rattle.dir_values.proofs.ArgumentWords.{arguments_words}
-use Rattle.list_values.specs.Parts.{parts_of}
-use Rattle.list_values.specs.VersionLists.{are_versions, versions_text}
+use Rattle.list_values.specs.{Parts.parts_of, VersionLists.{are_versions, versions_text}}
 use Rattle.list_values.specs.VersionLists as version
 use Rattle.value_groups.specs.Listed.{members_of}
-use Rattle.value_laws.specs.Lengths.{VersionsAreNoLonger}
-use Rattle.value_laws.proofs.Rooms.{room, words_room}
+use Rattle.value_laws.{specs.Lengths.VersionsAreNoLonger, proofs.Rooms.{room, words_room}}
 
 -- the parts of the first argument with commas between them are that argument
 made_of : (n : ℕ) (arguments : List Argument) → room (texts_of arguments) ≤ n + 1

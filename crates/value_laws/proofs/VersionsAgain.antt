@@ -1,25 +1,17 @@
 -- Versions that were written are read again.
-use Rattle.std.proofs.Common.{◌≡◌, ℕ, ◌<◌, true, List, [], ◌∷◌, length, Option, Some, None, refl}
-use Rattle.std.proofs.Common.{ap, ap₂, ◌∙◌, arith, length-append}
-use Rattle.std.specs.Prelude.{All, if◌then◌else◌, Bool}
-use Rattle.std.specs.List.{list_all}
-use Rattle.std.proofs.lemmas.List.Elements.{All-head, All-weaker}
-use Rattle.std.proofs.lemmas.List.Sums.{list_all-from_AllPass}
-use Rattle.dir_values.specs.Arguments.{arguments_at}
-use Rattle.dir_values.specs.FlagSets.{unless_wrong}
-use Rattle.dirdoc_grammar.specs.Writers.{is_argument}
-use Rattle.dirdoc_grammar.specs.Writing.{IsLineRest}
+use Rattle.std.proofs.Common.{◌≡◌, ℕ, ◌<◌, true, List, [], ◌∷◌, length, Option, Some, None, refl, ap, ap₂, ◌∙◌, arith}
+use Rattle.std.proofs.{Common.length-append, lemmas.List.{Elements.{All-head, All-weaker}, Sums.list_all-from_AllPass}}
+use Rattle.std.specs.{Prelude.{All, if◌then◌else◌, Bool}, List.list_all}
+use Rattle.dir_values.specs.{Arguments.arguments_at, FlagSets.unless_wrong}
+use Rattle.dirdoc_grammar.specs.{Writers.is_argument, Writing.IsLineRest}
 use Rattle.grammar_laws.proofs.LineRests.{rest_of_argument, rest_of_nothing}
-use Rattle.frame_laws.proofs.WordTexts.{Dark, is_word, length-word}
-use Rattle.frame_laws.proofs.Words.{arguments_of_word}
+use Rattle.frame_laws.proofs.{WordTexts.{Dark, is_word, length-word}, Words.arguments_of_word}
 use Rattle.item_terms.specs.Bytes.{comma}
-use Rattle.list_values.specs.Parts.{parts_of}
-use Rattle.list_values.specs.VersionLists.{are_versions, is_version, versions_in, versions_text}
+use Rattle.list_values.specs.{Parts.parts_of, VersionLists.{are_versions, is_version, versions_in, versions_text}}
 use Rattle.list_values.specs.VersionLists.{wrong_version_list}
 use Rattle.value_laws.specs.Again.{VersionsAreReadAgain, VersionsAreRight, VersionsFillLines}
-use Rattle.value_laws.proofs.LineWords.{dark_with_commas}
-use Rattle.value_laws.proofs.Marks.{LacksComma, parts_again}
-use Rattle.value_laws.proofs.VersionBytes.{version_dark, version_lacks_comma, word_of_version}
+use Rattle.value_laws.proofs.{LineWords.dark_with_commas, Marks.{LacksComma, parts_again}, VersionBytes.version_dark}
+use Rattle.value_laws.proofs.VersionBytes.{version_lacks_comma, word_of_version}
 
 abbrev IsVersion : List ℕ → Type 0
 IsVersion version = is_version version ≡ true

@@ -2,10 +2,8 @@
 use Rattle.std.specs.Prelude.{◌≡◌, ℕ, List, None, Ok, ℤ}
 use Rattle.dir_values.specs.Arguments.{arguments_at}
 use Rattle.dirdoc_grammar.specs.Writing.{IsLineRest}
-use Rattle.list_values.specs.declared.named.Named.{Named}
-use Rattle.list_values.specs.Masks.{numbers_of}
-use Rattle.list_values.specs.Params.{params_of, params_text, wrong_param}
-use Rattle.list_values.specs.Protocols.{protocols_of, protocols_text, wrong_protocol}
+use Rattle.list_values.specs.{declared.named.Named.Named, Masks.numbers_of, Params.{params_of, params_text}}
+use Rattle.list_values.specs.{Params.wrong_param, Protocols.{protocols_of, protocols_text, wrong_protocol}}
 use Rattle.list_values.specs.VersionLists.{version_list, versions_text, wrong_version_list}
 use Rattle.value_laws.specs.Ranges.{AreNumbersInRange, AreParamsInRange, AreProtocolsInRange, AreVersionsInRange}
 

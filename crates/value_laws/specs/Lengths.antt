@@ -2,9 +2,7 @@
 -- formats", the `params`, `client-versions`, `server-versions`, `recommended-..-protocols` and `required-..-protocols`
 -- lines).
 use Rattle.std.specs.Prelude.{ℕ, ◌≤◌, List, length}
-use Rattle.list_values.specs.Params.{params_text}
-use Rattle.list_values.specs.Protocols.{protocols_text}
-use Rattle.list_values.specs.VersionLists.{versions_text}
+use Rattle.list_values.specs.{Params.params_text, Protocols.protocols_text, VersionLists.versions_text}
 use Rattle.value_groups.specs.Listed.{params_in, protocols_in, versions_in}
 
 -- params with single spaces between them, each with its shortest number

@@ -1,12 +1,9 @@
 -- Lists of values that a document may have, and that are written and read again (dir-spec, "Vote and consensus status
 -- document formats", the `params`, `client-versions`, `server-versions`, `recommended-..-protocols` and
 -- `required-..-protocols` lines).
-use Rattle.std.specs.Prelude.{◌≡◌, ℕ, ◌<◌, true, List, All, AllPairs, ℤ, FitsSigned}
-use Rattle.std.specs.Int.{w32}
+use Rattle.std.specs.{Prelude.{◌≡◌, ℕ, ◌<◌, true, List, All, AllPairs, ℤ, FitsSigned}, Int.w32}
 use Rattle.dir_values.specs.FlagSets.{is_name}
-use Rattle.list_values.specs.declared.named.Named.{Named}
-use Rattle.list_values.specs.Maps.{Ascend}
-use Rattle.list_values.specs.VersionLists.{is_version}
+use Rattle.list_values.specs.{declared.named.Named.Named, Maps.Ascend, VersionLists.is_version}
 
 -- the param's name has the form of a flag's name, and its number has 32 bits with its sign
 pub record IsParamInRange (param : Named ℤ) : Type 0 where

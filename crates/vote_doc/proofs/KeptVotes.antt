@@ -3,10 +3,8 @@ use Rattle.std.proofs.Common.{◌≡◌, ℕ, List, length, Ok, sym, ap, ◌∙�
 use Rattle.item_terms.specs.Items.{Contents, items_of}
 use Rattle.frame_terms.specs.Documents.{document_of, finish}
 use Rattle.vote_frame.specs.Tables.{vote_tables}
-use Rattle.vote_doc.specs.declared.kept.Kept.{Kept}
-use Rattle.vote_doc.specs.Kept.{none_kept, kept_with}
+use Rattle.vote_doc.specs.{declared.kept.Kept.Kept, Kept.{none_kept, kept_with}, Reading.kept_of}
 use Rattle.vote_terms.specs.Votes.{max_vote}
-use Rattle.vote_doc.specs.Reading.{kept_of}
 
 pub kept_is : (bytes : List ℕ) (before kept : Kept) (items : Contents) (end : ℕ) → items ≡ items_of max_vote bytes
     → before ≡ none_kept → finish kept_with before (document_of vote_tables (length bytes) items) ≡ Ok (kept, end)

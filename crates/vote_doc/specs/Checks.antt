@@ -1,19 +1,17 @@
 -- What checking a vote answers.
 use Rattle.std.specs.Prelude.{◌≡◌, ◌⊎◌, ℕ, ◌≤◌, true, false, List}
-use Rattle.dir_values.specs.Digests.{same_identity}
-use Rattle.dir_values.specs.declared.digest.Fingerprint.{Fingerprint}
-use Rattle.key_port.specs.Answers.{Rules, Steps}
+use Rattle.dir_values.specs.{Digests.same_identity, declared.digest.Fingerprint.Fingerprint}
+use Rattle.key_port.specs.{Answers.{Rules, Steps}, declared.verifier.VerifyAnswer.VerifyAnswer}
 use Rattle.key_port.specs.declared.verifier.KeyKind.TheVariants as kind
-use Rattle.key_port.specs.declared.verifier.VerifyAnswer.{VerifyAnswer}
 use Rattle.key_port.specs.declared.verifier.VerifyAnswer.TheVariants as verified
 use Rattle.authority_certs.specs.Checks.{Asks, AsksBoth, IsCertified, IsCurrent, certifies, crosscertifies}
 use Rattle.authority_certs.specs.declared.checking.CertAnswer.{CertAnswer}
 use Rattle.authority_certs.specs.declared.checking.CertAnswer.TheVariants as answer
-use Rattle.vote_terms.specs.Votes.{ReadVote}
-use Rattle.vote_terms.specs.Acceptable.{IsAsked, Refuses, has_fingerprint, names_signer, signed_digest, signs}
+use Rattle.vote_terms.specs.{Votes.ReadVote, Acceptable.{IsAsked, Refuses, has_fingerprint, names_signer}}
+use Rattle.vote_terms.specs.Acceptable.{signed_digest, signs}
 use Rattle.vote_terms.specs.declared.word.VoteWord.TheVariants as word
-use Rattle.vote_doc.specs.declared.check.VoteRefusal.{VoteRefusal}
-use Rattle.vote_doc.specs.declared.check.VoteRefusal.TheVariants.{WrongPeriod, UnknownAuthority, Cert, BadSignature, VerifierFault}
+use Rattle.vote_doc.specs.declared.check.VoteRefusal.{VoteRefusal, TheVariants.{WrongPeriod, UnknownAuthority, Cert}}
+use Rattle.vote_doc.specs.declared.check.VoteRefusal.TheVariants.{BadSignature, VerifierFault}
 
 -- the first clause that the vote fails is the one that the certificate's answer names
 abbrev pub RefusedByCert : Rules → List Fingerprint → ℕ → ReadVote → CertAnswer → Type 0

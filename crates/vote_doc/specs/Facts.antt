@@ -1,21 +1,14 @@
 -- What a vote says, from its bytes and what was kept of its sections.
 use Rattle.std.specs.Prelude.{◌≡◌, ℕ, ◌<◌, ◌^◌, List, length, map, slice_range, option_map, Option, unwrap_or}
 use Rattle.item_terms.specs.Words.{words_of}
-use Rattle.dir_values.specs.FlagSets.{as_set}
-use Rattle.dir_values.specs.declared.algorithm.Algorithm.{Algorithm}
-use Rattle.dir_values.specs.declared.algorithm.Algorithm.TheVariants.{Sha1}
-use Rattle.frame_values.specs.declared.found.VoteSignature.{VoteSignature}
-use Rattle.frame_values.specs.Parts.{bytes_in, moment_of, part}
-use Rattle.authority_certs.specs.Certs.{cert_in, whole_part}
+use Rattle.dir_values.specs.{FlagSets.as_set, declared.algorithm.Algorithm.{Algorithm, TheVariants.Sha1}}
 use Rattle.dir_values.specs.Numbers.{numbers_in}
-use Rattle.vote_terms.specs.Votes.{ReadVote}
-use Rattle.vote_terms.specs.declared.facts.SignatureFacts.{SignatureFacts}
-use Rattle.vote_terms.specs.declared.facts.VoteFacts.{VoteFacts}
-use Rattle.vote_entries.specs.Entries.{entry_in}
-use Rattle.vote_doc.specs.declared.head.Head.{Head}
-use Rattle.vote_doc.specs.declared.kept.Kept.{Kept}
-use Rattle.vote_doc.specs.declared.head_values.HeadValues.{HeadValues}
+use Rattle.frame_values.specs.{declared.found.VoteSignature.VoteSignature, Parts.{bytes_in, moment_of, part}}
+use Rattle.authority_certs.specs.Certs.{cert_in, whole_part}
+use Rattle.vote_terms.specs.{Votes.ReadVote, declared.facts.{SignatureFacts.SignatureFacts, VoteFacts.VoteFacts}}
 use Rattle.vote_terms.specs.ListLines.{vote_lists}
+use Rattle.vote_entries.specs.Entries.{entry_in}
+use Rattle.vote_doc.specs.declared.{head.Head.Head, kept.Kept.Kept, head_values.HeadValues.HeadValues}
 
 -- the hash of a signature that names this one, or none
 abbrev pub algorithm_of : Option Algorithm → Algorithm

@@ -1,22 +1,20 @@
 -- What is kept of a vote's sections. The tables of the document see to it that each item is there which has to stand;
 -- where one is not, its value is nothing.
-use Rattle.std.specs.Prelude.{ℕ, ◌+◌, ◌-◌, ◌^◌, min, List, Option, Some, None}
-use Rattle.std.specs.Option.{option_or}
+use Rattle.std.specs.{Prelude.{ℕ, ◌+◌, ◌-◌, ◌^◌, min, List, Option, Some, None}, Option.option_or}
 use Rattle.frame_terms.specs.declared.keyword.Keyword.TheVariants.{NetworkStatusVersion, ConsensusMethods, Published}
 use Rattle.frame_terms.specs.declared.keyword.Keyword.TheVariants.{ValidAfter, FreshUntil, ValidUntil, VotingDelay}
 use Rattle.frame_terms.specs.declared.keyword.Keyword.TheVariants.{KnownFlags, FlagThresholds, Contact}
 use Rattle.frame_terms.specs.declared.keyword.Keyword.TheVariants.{SharedRandPreviousValue, SharedRandCurrentValue}
 use Rattle.frame_terms.specs.declared.keyword.Keyword.TheVariants.{DirSource as DirSourceLine, DirectorySignature}
 use Rattle.frame_terms.specs.declared.document.Taken.{Taken}
-use Rattle.frame_values.specs.declared.values.Value.{Value}
+use Rattle.frame_values.specs.{declared.values.Value.Value, Values.{item_at, place_in, after_in, nowhere, number_in}}
+use Rattle.frame_values.specs.Values.{text_if, text_in}
 use Rattle.authority_certs.specs.Heads as cert
-use Rattle.vote_doc.specs.declared.head.Head.{Head}
-use Rattle.frame_values.specs.Values.{item_at, place_in, after_in, nowhere, number_in, text_if, text_in}
-use Rattle.vote_frame.specs.declared.frame.VoteSection.{VoteSection}
-use Rattle.vote_frame.specs.declared.frame.VoteSection.TheVariants.{Preamble, Authority, Certificate, Entry, Footer}
-use Rattle.vote_frame.specs.declared.frame.VoteValue.{VoteValue}
+use Rattle.vote_doc.specs.{declared.head.Head.Head, Saying.{delays_in, no_source, source_in, random_in, no_signature}}
+use Rattle.vote_doc.specs.Saying.{signature_in}
+use Rattle.vote_frame.specs.declared.frame.VoteSection.{VoteSection, TheVariants.{Preamble, Authority, Certificate}}
+use Rattle.vote_frame.specs.declared.frame.{VoteSection.TheVariants.{Entry, Footer}, VoteValue.VoteValue}
 use Rattle.vote_terms.specs.ListLines.{lists_in, no_lists}
-use Rattle.vote_doc.specs.Saying.{delays_in, no_source, source_in, random_in, no_signature, signature_in}
 
 -- what is kept where nothing was read
 abbrev pub no_head : Head

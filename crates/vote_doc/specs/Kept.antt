@@ -2,12 +2,10 @@
 use Rattle.std.specs.Prelude.{List, []}
 use Rattle.frame_terms.specs.declared.document.Taken.{Taken}
 use Rattle.frame_values.specs.declared.values.Value.{Value}
-use Rattle.vote_frame.specs.declared.frame.VoteSection.{VoteSection}
-use Rattle.vote_frame.specs.declared.frame.VoteSection.TheVariants.{Preamble, Authority, Certificate, Entry, Footer}
-use Rattle.vote_frame.specs.declared.frame.VoteValue.{VoteValue}
+use Rattle.vote_frame.specs.declared.frame.VoteSection.{VoteSection, TheVariants.{Preamble, Authority, Certificate}}
+use Rattle.vote_frame.specs.declared.frame.{VoteSection.TheVariants.{Entry, Footer}, VoteValue.VoteValue}
 use Rattle.vote_entries.specs.Kept.{entry_of, with_entry}
-use Rattle.vote_doc.specs.Heads.{head_with, no_head}
-use Rattle.vote_doc.specs.declared.kept.Kept.{Kept}
+use Rattle.vote_doc.specs.{Heads.{head_with, no_head}, declared.kept.Kept.Kept}
 
 -- what is kept where nothing was read
 abbrev pub none_kept : Kept

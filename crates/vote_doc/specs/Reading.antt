@@ -1,13 +1,9 @@
 -- The vote that bytes begin with, or their first fault (dir-spec, "Vote and consensus status document formats").
 use Rattle.std.specs.Prelude.{◌≡◌, ℕ, ◌≤◌, List, drop, length, take, Result, Ok, Err}
 use Rattle.item_terms.specs.Items.{items_of}
-use Rattle.frame_terms.specs.declared.fault.ReadRefusal.{ReadRefusal}
-use Rattle.frame_terms.specs.Documents.{document_of, finish}
-use Rattle.frame_terms.specs.Refusals.{Fails}
+use Rattle.frame_terms.specs.{declared.fault.ReadRefusal.ReadRefusal, Documents.{document_of, finish}, Refusals.Fails}
 use Rattle.vote_terms.specs.Votes.{ReadVote, max_vote}
-use Rattle.vote_doc.specs.declared.kept.Kept.{Kept}
-use Rattle.vote_doc.specs.Kept.{none_kept, kept_with}
-use Rattle.vote_doc.specs.Facts.{vote_in}
+use Rattle.vote_doc.specs.{declared.kept.Kept.Kept, Kept.{none_kept, kept_with}, Facts.vote_in}
 use Rattle.blank_lines.specs.Behind.{behind}
 use Rattle.vote_frame.specs.Tables.{vote_tables}
 

@@ -1,13 +1,10 @@
 -- What items of a vote alone say, in its sections. Where an item is not there, its value is nothing.
 use Rattle.std.specs.Prelude.{ℕ, Option, Some, None, Ok}
 use Rattle.frame_terms.specs.declared.document.Taken.{Taken}
-use Rattle.frame_values.specs.declared.values.Value.{Value}
+use Rattle.frame_values.specs.declared.{values.Value.Value, found.{DirSource.DirSource, VoteSignature.VoteSignature}}
 use Rattle.frame_values.specs.Values.{own_in, nowhere, no_digest}
-use Rattle.frame_values.specs.declared.found.DirSource.{DirSource}
-use Rattle.frame_values.specs.declared.found.VoteSignature.{VoteSignature}
-use Rattle.vote_frame.specs.declared.frame.VoteValue.{VoteValue}
+use Rattle.vote_frame.specs.declared.frame.VoteValue.{VoteValue, TheVariants.{Delays, Source, Random, Signature}}
 use Rattle.value_groups.specs.declared.value.SharedRandom.{SharedRandom}
-use Rattle.vote_frame.specs.declared.frame.VoteValue.TheVariants.{Delays, Source, Random, Signature}
 
 -- the two numbers of seconds that a value is, and 0 of another kind
 abbrev pub delays_of_value : Option VoteValue → ℕ × ℕ

@@ -1,7 +1,7 @@
 // The votes that are held, one for each authority.
-ghost use Rattle.std.specs.Prelude.{◌≡◌, ◌≤◌, ◌<◌, ◌⊎◌, [], length, option_map, true, vec_len, vec_capacity, IfOk, IsSome, slice_index_or};
-ghost use Rattle.vote_terms.specs.Votes.{is_above, rank_of};
-ghost use Rattle.vote_terms.specs.Held.{votes_with, rival, vote_of, VotesAscend};
+ghost use Rattle.std.specs.Prelude.{◌≡◌, ◌≤◌, ◌<◌, ◌⊎◌, [], length, option_map, true, vec_len, vec_capacity, IfOk};
+ghost use Rattle.std.specs.Prelude.{IsSome, slice_index_or};
+ghost use Rattle.vote_terms.specs.{Votes.{is_above, rank_of}, Held.{votes_with, rival, vote_of, VotesAscend}};
 ghost use Rattle.vote_doc.specs.Holdings.{MayPlace, against, placing_answer};
 ghost use Rattle.vote_doc.specs.Lending as lending;
 

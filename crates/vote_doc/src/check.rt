@@ -5,8 +5,7 @@ ghost use Rattle.key_port.specs.Answers.{rules};
 ghost use Rattle.key_port.specs.declared.verifier.VerifyAnswer.TheVariants as verified;
 ghost use Rattle.authority_certs.specs.Checks.{Asks};
 ghost use Rattle.vote_terms.specs.Acceptable as acceptable;
-ghost use Rattle.vote_terms.specs.Acceptable.{IsAcceptable};
-ghost use Rattle.vote_terms.specs.Votes.{vote_digest};
+ghost use Rattle.vote_terms.specs.{Acceptable.IsAcceptable, Votes.vote_digest};
 ghost use Rattle.vote_doc.specs.Checks.{AsksAll, AsksOfRefused, AsksSignature, ChecksCert, ChecksSignature, RefusedBy};
 
 use crate::checked::CheckedVote;

@@ -1,8 +1,7 @@
 // A vote that was checked.
 ghost use Rattle.std.specs.Prelude.{◌≡◌};
 ghost use Rattle.key_port.specs.Answers.{rules};
-ghost use Rattle.vote_terms.specs.Acceptable.{IsVerified};
-ghost use Rattle.vote_terms.specs.Votes.{vote_digest};
+ghost use Rattle.vote_terms.specs.{Acceptable.IsVerified, Votes.vote_digest};
 
 use crate::held::{HeldVote, rank_with};
 use crate::vote::Vote;
@@ -23,8 +22,7 @@ pub struct CheckedVote<V: Verifier> {
 impl<V: Verifier> Model for CheckedVote<V> {
     ghost use Rattle.std.specs.Prelude.{◌≡◌};
     ghost use Rattle.key_port.specs.Answers.{rules};
-    ghost use Rattle.vote_terms.specs.Acceptable.{IsVerified};
-    ghost use Rattle.vote_terms.specs.Votes.{ReadVote, vote_digest};
+    ghost use Rattle.vote_terms.specs.{Acceptable.IsVerified, Votes.{ReadVote, vote_digest}};
     ghost use Rattle.vote_doc.specs.Ranks.{IsWholeOf};
 
     ghost Value = { ReadVote };

@@ -2,8 +2,7 @@
 ghost use Rattle.std.specs.Prelude.{◌≡◌, ◌≤◌, ◌<◌, ◌^◌, length, option_map, slice_index_or};
 ghost use Rattle.dir_bytes.specs.Causes.{last_moment};
 ghost use Rattle.dir_values.specs.Numbers.{numbers_in};
-ghost use Rattle.vote_terms.specs.Entries.{Ascending};
-ghost use Rattle.vote_terms.specs.Votes.{rank_of, vote_digest};
+ghost use Rattle.vote_terms.specs.{Entries.Ascending, Votes.{rank_of, vote_digest}};
 ghost use Rattle.vote_doc.specs.Facts as facts;
 
 use crate::head_values::HeadValues;
@@ -151,13 +150,6 @@ impl Vote {
         ensures { result.now ≡ self.now.says.lists }
     {
         &self.values.lists
-    }
-
-    /// The text of the `flag-thresholds` line, where there is one.
-    pub fn flag_thresholds(&self) -> Option<&[u8]>
-        ensures { option_map (λ text. text.now) result ≡ self.now.says.flag_thresholds }
-    {
-        part_if(&self.bytes, self.kept.head.flag_thresholds)
     }
 
     /// The authority's nickname.

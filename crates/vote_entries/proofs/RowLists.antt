@@ -1,20 +1,14 @@
 -- Rows over lists that grow.
-use Rattle.std.proofs.Common.{◌≡◌, ℕ, ◌-◌, ◌<◌, ◌≤◌, List, [], ◌∷◌, ◌++◌, length, map, take, drop, Option, Some, refl, sym, ap, ◌∙◌, arith}
-use Rattle.std.proofs.lemmas.List.{drop-append-le, length-append, length-drop, length-map, map-append, take-append-drop, take-append-le}
-use Rattle.std.proofs.lemmas.Option.{slice_get-map}
-use Rattle.std.proofs.Math.Seq.{drop-append_seam, take-length}
-use Rattle.std.specs.Prelude.{option_map, slice_get}
+use Rattle.std.proofs.Common.{◌≡◌, ℕ, ◌-◌, ◌<◌, ◌≤◌, List, [], ◌∷◌, ◌++◌, length, map, take, drop, Option, Some, refl}
+use Rattle.std.proofs.{Common.{sym, ap, ◌∙◌, arith}, lemmas.List.{drop-append-le, length-append, length-drop}}
+use Rattle.std.proofs.lemmas.{List.{length-map, map-append, take-append-drop, take-append-le}, Option.slice_get-map}
+use Rattle.std.{proofs.Math.Seq.{drop-append_seam, take-length}, specs.Prelude.{option_map, slice_get}}
 use Rattle.frame_terms.specs.declared.document.Taken.{Taken}
-use Rattle.frame_values.specs.declared.found.Span.{Span}
-use Rattle.frame_values.specs.declared.values.Value.{Value}
+use Rattle.frame_values.specs.declared.{found.Span.Span, values.Value.Value}
 use Rattle.vote_frame.specs.declared.frame.VoteValue.{VoteValue}
-use Rattle.vote_entries.specs.Entries.{entry_in}
-use Rattle.vote_entries.specs.Kept.{KeptEntry, entry_of}
-use Rattle.vote_entries.specs.Saying.{addresses_in, micros_in}
+use Rattle.vote_entries.specs.{Entries.entry_in, Kept.{KeptEntry, entry_of}, Saying.{addresses_in, micros_in}}
 use Rattle.vote_entries.specs.Rows.{AreWithin, LiesWithin, kept_in, kept_rows, row_of, run_of, whole_in}
-use Rattle.vote_entries.specs.declared.row.EntryRow.{EntryRow}
-use Rattle.vote_entries.specs.declared.row.KeptMicro.{KeptMicro}
-use Rattle.vote_entries.specs.declared.row.Run.{Run}
+use Rattle.vote_entries.specs.declared.row.{EntryRow.EntryRow, KeptMicro.KeptMicro, Run.Run}
 
 -- the part that a run names stays where more follows
 part_stays : {X : Type 0} (list more : List X) (run : Run) → LiesWithin (length list) run → run_of (list ++ more) run ≡ run_of list run

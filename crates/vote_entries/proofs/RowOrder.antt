@@ -1,23 +1,15 @@
 -- The order of rows, and of the entries that they keep.
-use Rattle.std.proofs.Common.{◌≡◌, ℕ, zero, suc, ◌+◌, Bool, true, false, ◌&&◌, List, [], ◌∷◌, ◌++◌, length, map, Some, refl, sym, ap, subst, ◌∙◌, arith}
-use Rattle.std.proofs.lemmas.List.Folds.{list_all-map}
-use Rattle.std.proofs.lemmas.List.Quantifiers.{all_pairs_push}
-use Rattle.std.proofs.lemmas.List.Sums.{AllPass-from_list_all}
-use Rattle.std.proofs.lemmas.Option.{get_or_from_slice_get}
-use Rattle.std.specs.List.{list_all}
-use Rattle.std.specs.Prelude.{All, slice_get, slice_index_or}
+use Rattle.std.proofs.Common.{◌≡◌, ℕ, zero, suc, ◌+◌, Bool, true, false, ◌&&◌, List, [], ◌∷◌, ◌++◌, length, map, Some}
+use Rattle.std.proofs.{Common.{refl, sym, ap, subst, ◌∙◌, arith}, lemmas.List.Folds.list_all-map}
+use Rattle.std.proofs.lemmas.List.{Quantifiers.all_pairs_push, Sums.AllPass-from_list_all}
+use Rattle.std.{proofs.lemmas.Option.get_or_from_slice_get, specs.{List.list_all, Prelude.{All, slice_get}}}
+use Rattle.std.specs.Prelude.{slice_index_or}
 use Rattle.dir_values.proofs.Orders.{AllPairs-cons, AllPairs-head, AllPairs-nil, AllPairs-tail}
-use Rattle.dir_values.specs.Digests.{identity_below}
-use Rattle.dir_values.specs.declared.digest.Fingerprint.{Fingerprint}
+use Rattle.dir_values.specs.{Digests.identity_below, declared.digest.Fingerprint.Fingerprint}
 use Rattle.frame_values.specs.declared.found.Span.{Span}
-use Rattle.vote_terms.proofs.Orders.{below_trans}
-use Rattle.vote_terms.specs.Entries.{Ascending}
-use Rattle.vote_terms.specs.declared.entry.EntryFacts.{EntryFacts}
-use Rattle.vote_entries.specs.Entries.{entry_in}
-use Rattle.vote_entries.specs.Kept.{KeptEntry, is_after}
-use Rattle.vote_entries.specs.Rows.{Ascend, kept_rows, whole_in}
-use Rattle.vote_entries.specs.declared.row.EntryRow.{EntryRow}
-use Rattle.vote_entries.specs.declared.row.KeptMicro.{KeptMicro}
+use Rattle.vote_terms.{proofs.Orders.below_trans, specs.{Entries.Ascending, declared.entry.EntryFacts.EntryFacts}}
+use Rattle.vote_entries.specs.{Entries.entry_in, Kept.{KeptEntry, is_after}, Rows.{Ascend, kept_rows, whole_in}}
+use Rattle.vote_entries.specs.declared.row.{EntryRow.EntryRow, KeptMicro.KeptMicro}
 
 -- a row comes before another
 abbrev RowBelow : EntryRow → EntryRow → Type 0

@@ -4,10 +4,8 @@ use Rattle.dir_values.specs.FlagSets.{as_set}
 use Rattle.frame_values.specs.Parts.{moment_of, part}
 use Rattle.item_terms.specs.Words.{words_of}
 use Rattle.relay_entries.specs.Fields.{methods_in}
-use Rattle.vote_terms.specs.declared.entry.EntryFacts.{EntryFacts}
-use Rattle.vote_terms.specs.declared.entry.MicroFacts.{MicroFacts}
-use Rattle.vote_entries.specs.Kept.{KeptEntry}
-use Rattle.vote_entries.specs.declared.row.KeptMicro.{KeptMicro}
+use Rattle.vote_terms.specs.declared.entry.{EntryFacts.EntryFacts, MicroFacts.MicroFacts}
+use Rattle.vote_entries.specs.{Kept.KeptEntry, declared.row.KeptMicro.KeptMicro}
 
 -- what an `m` line says that was kept, in these bytes
 abbrev pub micro_in : List ℕ → KeptMicro → MicroFacts

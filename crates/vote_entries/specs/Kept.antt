@@ -1,19 +1,12 @@
 -- What is kept of the entries of a vote.
-use Rattle.std.specs.Prelude.{Bool, List, [], ◌∷◌, ◌++◌, Option, if◌then◌else◌}
-use Rattle.std.specs.List.{list_all}
-use Rattle.dir_values.specs.Digests.{identity_below}
-use Rattle.dir_values.specs.declared.digest.Fingerprint.{Fingerprint}
-use Rattle.frame_terms.specs.declared.document.Taken.{Taken}
-use Rattle.frame_terms.specs.declared.keyword.Keyword.TheVariants.{R, S, V, Pr, W, P, Id}
-use Rattle.frame_values.specs.declared.found.Span.{Span}
-use Rattle.frame_values.specs.declared.values.Value.{Value}
-use Rattle.frame_values.specs.Values.{item_at, text_if, text_in}
-use Rattle.relay_entries.specs.declared.said.Bandwidths.{Bandwidths}
-use Rattle.relay_entries.specs.declared.said.EdOpinion.{EdOpinion}
-use Rattle.relay_entries.specs.declared.said.RelayLine.{RelayLine}
+use Rattle.std.specs.{Prelude.{Bool, List, [], ◌∷◌, ◌++◌, Option, if◌then◌else◌}, List.list_all}
+use Rattle.dir_values.specs.{Digests.identity_below, declared.digest.Fingerprint.Fingerprint}
+use Rattle.frame_terms.specs.declared.{document.Taken.Taken, keyword.Keyword.TheVariants.{R, S, V, Pr, W, P, Id}}
+use Rattle.frame_values.specs.{declared.{found.Span.Span, values.Value.Value}, Values.{item_at, text_if, text_in}}
+use Rattle.relay_entries.specs.declared.said.{Bandwidths.Bandwidths, EdOpinion.EdOpinion, RelayLine.RelayLine}
 use Rattle.vote_frame.specs.declared.frame.VoteValue.{VoteValue}
-use Rattle.vote_entries.specs.declared.row.KeptMicro.{KeptMicro}
-use Rattle.vote_entries.specs.Saying.{relay_in, addresses_in, bandwidths_in, micros_in, ed_in}
+use Rattle.vote_entries.specs.{declared.row.KeptMicro.KeptMicro, Saying.{relay_in, addresses_in, bandwidths_in}}
+use Rattle.vote_entries.specs.Saying.{micros_in, ed_in}
 
 -- what is kept of an entry: numbers, and where its texts stand
 pub record KeptEntry : Type 0 where

@@ -2,17 +2,11 @@
 -- them, of which a row names its part.
 use Rattle.std.specs.Prelude.{◌≡◌, ℕ, ◌≤◌, true, List, [], ◌∷◌, AllPairs, map, slice_range}
 use Rattle.dir_values.specs.Digests.{identity_below}
-use Rattle.frame_terms.specs.declared.document.Taken.{Taken}
-use Rattle.frame_terms.specs.declared.keyword.Keyword.TheVariants.{R, S, V, Pr, W, P, Id}
-use Rattle.frame_values.specs.declared.found.Span.{Span}
-use Rattle.frame_values.specs.declared.values.Value.{Value}
-use Rattle.frame_values.specs.Values.{item_at, text_if, text_in}
+use Rattle.frame_terms.specs.declared.{document.Taken.Taken, keyword.Keyword.TheVariants.{R, S, V, Pr, W, P, Id}}
+use Rattle.frame_values.specs.{declared.{found.Span.Span, values.Value.Value}, Values.{item_at, text_if, text_in}}
 use Rattle.vote_frame.specs.declared.frame.VoteValue.{VoteValue}
-use Rattle.vote_entries.specs.declared.row.EntryRow.{EntryRow}
-use Rattle.vote_entries.specs.declared.row.KeptMicro.{KeptMicro}
-use Rattle.vote_entries.specs.declared.row.Run.{Run}
-use Rattle.vote_entries.specs.Saying.{relay_in, bandwidths_in, ed_in}
-use Rattle.vote_entries.specs.Kept.{KeptEntry}
+use Rattle.vote_entries.specs.{declared.row.{EntryRow.EntryRow, KeptMicro.KeptMicro, Run.Run}, Saying.relay_in}
+use Rattle.vote_entries.specs.{Saying.{bandwidths_in, ed_in}, Kept.KeptEntry}
 
 -- the row of an entry with these items, whose addresses and `m` lines stand in these runs
 abbrev pub row_of : List (Taken (Value VoteValue)) → Run → Run → EntryRow

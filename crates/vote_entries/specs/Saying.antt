@@ -1,20 +1,15 @@
 -- What the items of an entry of a vote say. Where an item is not there, or says something else, its value is nothing.
 use Rattle.std.specs.Prelude.{List, [], ◌∷◌, Option, Some, None, if◌then◌else◌}
 use Rattle.dir_values.specs.declared.digest.Digest2.{Digest2}
-use Rattle.frame_terms.specs.declared.document.Taken.{Taken}
-use Rattle.frame_terms.specs.declared.keyword.Keyword.TheVariants.{A}
-use Rattle.frame_terms.specs.Keywords.{same}
-use Rattle.frame_values.specs.declared.found.Span.{Span}
-use Rattle.frame_values.specs.declared.values.Value.{Value}
+use Rattle.frame_terms.specs.{declared.{document.Taken.Taken, keyword.Keyword.TheVariants.A}, Keywords.same}
+use Rattle.frame_values.specs.{declared.{found.Span.Span, values.Value.Value}, Values.{no_digest, nowhere, own_in}}
+use Rattle.frame_values.specs.Values.{text_of_value}
 use Rattle.frame_values.specs.declared.values.Value.TheVariants as value
-use Rattle.frame_values.specs.Values.{no_digest, nowhere, own_in, text_of_value}
-use Rattle.relay_entries.specs.declared.said.Bandwidths.{Bandwidths as BandwidthsSaid}
-use Rattle.relay_entries.specs.declared.said.EdOpinion.{EdOpinion}
-use Rattle.relay_entries.specs.declared.said.EdOpinion.TheVariants as opinion
+use Rattle.relay_entries.specs.declared.said.{Bandwidths.Bandwidths as BandwidthsSaid, EdOpinion.EdOpinion}
 use Rattle.relay_entries.specs.declared.said.EntryValue.TheVariants.{Relay, Bandwidths, Micro, Ed}
 use Rattle.relay_entries.specs.declared.said.RelayLine.{RelayLine}
-use Rattle.vote_frame.specs.declared.frame.VoteValue.{VoteValue}
-use Rattle.vote_frame.specs.declared.frame.VoteValue.TheVariants.{Entry}
+use Rattle.relay_entries.specs.declared.said.EdOpinion.TheVariants as opinion
+use Rattle.vote_frame.specs.declared.frame.VoteValue.{VoteValue, TheVariants.Entry}
 use Rattle.vote_entries.specs.declared.row.KeptMicro.{KeptMicro}
 
 -- a relay of which nothing is known

@@ -1,14 +1,12 @@
 // An entry of a vote.
-ghost use Rattle.std.specs.Prelude.{◌≡◌, ◌≤◌, ◌<◌, ◌^◌, length, map, nat_eq, option_map};
-ghost use Rattle.std.specs.List.{find, list_any};
+ghost use Rattle.std.specs.{Prelude.{◌≡◌, ◌≤◌, ◌<◌, ◌^◌, length, map, nat_eq, option_map}, List.{find, list_any}};
 ghost use Rattle.dir_bytes.specs.Causes.{last_moment};
 ghost use Rattle.dir_values.specs.FlagSets.{as_set};
 ghost use Rattle.item_terms.specs.Words.{words_of};
 ghost use Rattle.relay_entries.specs.Fields.{methods_in};
 ghost use Rattle.vote_terms.specs.Entries as entries;
 ghost use Rattle.vote_terms.specs.declared.entry.MicroFacts.{MicroFacts};
-ghost use Rattle.vote_entries.specs.Entries.{entry_in, micro_in};
-ghost use Rattle.vote_entries.specs.Rows.{kept_in};
+ghost use Rattle.vote_entries.specs.{Entries.{entry_in, micro_in}, Rows.kept_in};
 
 use crate::facts::number_in;
 use crate::row::{EntryRow, KeptMicro};
@@ -29,8 +27,7 @@ pub struct Entry<'a> {
 impl<'a> Model for Entry<'a> {
     ghost use Rattle.std.specs.Prelude.{◌<◌, ◌^◌, length};
     ghost use Rattle.vote_terms.specs.declared.entry.EntryFacts.{EntryFacts};
-    ghost use Rattle.vote_entries.specs.Entries.{entry_in};
-    ghost use Rattle.vote_entries.specs.Rows.{kept_in};
+    ghost use Rattle.vote_entries.specs.{Entries.entry_in, Rows.kept_in};
 
     ghost Value = { EntryFacts };
 

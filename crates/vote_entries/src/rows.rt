@@ -1,5 +1,6 @@
 // What is kept of the entries of a vote, as flat rows.
-ghost use Rattle.std.specs.Prelude.{◌≡◌, ◌<◌, ◌^◌, ◌++◌, ◌∷◌, [], ℕ, List, true, OnOk, OnErr, IfOk, length, map, slice_index_or};
+ghost use Rattle.std.specs.Prelude.{◌≡◌, ◌<◌, ◌^◌, ◌++◌, ◌∷◌, [], ℕ, List, true, OnOk, OnErr, IfOk, length, map};
+ghost use Rattle.std.specs.Prelude.{slice_index_or};
 ghost use Rattle.vote_terms.specs.Entries.{Ascending};
 ghost use Rattle.vote_entries.specs.Entries.{entry_in};
 ghost use Rattle.vote_entries.specs.Kept as kept;
@@ -24,8 +25,7 @@ pub struct Rows {
 
 impl Model for Rows {
     ghost use Rattle.std.specs.Prelude.{List, length};
-    ghost use Rattle.vote_entries.specs.Kept.{KeptEntry};
-    ghost use Rattle.vote_entries.specs.Rows.{AreRows, kept_rows};
+    ghost use Rattle.vote_entries.specs.{Kept.KeptEntry, Rows.{AreRows, kept_rows}};
 
     ghost Value = { List KeptEntry };
 

@@ -1,14 +1,9 @@
 -- Which bytes are blank lines.
 use Rattle.std.proofs.Common.{◌≡◌, ◌∙◌, ℕ, Bool, true, false, List, [], ◌∷◌, ◌++◌, refl, sym, ap}
-use Rattle.std.specs.Prelude.{◌==◌, ◌&&◌, if◌then◌else◌}
-use Rattle.std.specs.List.{fold, list_all}
-use Rattle.std.proofs.lemmas.List.Sums.{fold-append}
-use Rattle.item_terms.specs.Lines.{Line, lines, onto}
-use Rattle.item_terms.specs.Words.{is_blank, is_blank_line}
-use Rattle.vote_feed.specs.declared.blanks.Blank.{Blank}
-use Rattle.vote_feed.specs.declared.blanks.Blank.TheVariants.{Lines, Within, Other}
-use Rattle.vote_feed.specs.Blanks.{blank_by, blank_of, blank_with, is_lines}
-use Rattle.vote_feed.specs.Feeding.{are_blank_lines}
+use Rattle.std.{proofs.lemmas.List.Sums.fold-append, specs.{Prelude.{◌==◌, ◌&&◌, if◌then◌else◌}, List.{fold, list_all}}}
+use Rattle.item_terms.specs.{Lines.{Line, lines, onto}, Words.{is_blank, is_blank_line}}
+use Rattle.vote_feed.specs.{declared.blanks.Blank.{Blank, TheVariants.{Lines, Within, Other}}, Blanks.blank_by}
+use Rattle.vote_feed.specs.{Blanks.{blank_of, blank_with, is_lines}, Feeding.are_blank_lines}
 
 abbrev all_blank : List Line → Bool
 all_blank ls = list_all (λ (line : Line). line.ended && is_blank_line line.text) ls

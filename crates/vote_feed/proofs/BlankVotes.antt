@@ -1,27 +1,16 @@
 -- Blank lines alone are no vote.
-use Rattle.std.proofs.Common.{◌≡◌, ℕ, ◌+◌, Bool, true, List, [], ◌∷◌, length, drop, Option, Some, None, Result, Ok}
-use Rattle.std.proofs.Common.{Err}
-use Rattle.std.proofs.Common.{refl, ap, subst, sym, ◌∙◌}
-use Rattle.std.specs.Prelude.{if◌then◌else◌}
-use Rattle.item_terms.specs.Faults.{at, line_fault}
-use Rattle.item_terms.specs.Items.{Contents, Item, contents_of, items_from, nothing, proceed}
-use Rattle.item_terms.specs.Lines.{Line, lines, size}
-use Rattle.item_terms.specs.Steps.{Open, item_unless, keyword_item, open_item}
-use Rattle.item_terms.specs.Words.{is_keyword_line}
-use Rattle.item_terms.specs.declared.fault.DocFault.{DocFault}
-use Rattle.item_terms.specs.declared.fault.DocReason.TheVariants.{Keyword}
-use Rattle.grammar_laws.specs.Blocks.{AreBlankLines, AreLinesOfItems}
-use Rattle.grammar_laws.proofs.BlockFronts.{items_are_there}
-use Rattle.frame_terms.specs.Documents.{Document, document_of, finish, read_items}
-use Rattle.frame_terms.specs.Keywords.{same}
+use Rattle.std.proofs.Common.{◌≡◌, ℕ, ◌+◌, Bool, true, List, [], ◌∷◌, length, drop, Option, Some, None, Result, Ok, Err}
+use Rattle.std.{proofs.Common.{refl, ap, subst, sym, ◌∙◌}, specs.Prelude.if◌then◌else◌}
+use Rattle.item_terms.specs.{Faults.{at, line_fault}, Items.{Contents, Item, contents_of, items_from, nothing, proceed}}
+use Rattle.item_terms.specs.{Lines.{Line, lines, size}, Steps.{Open, item_unless, keyword_item, open_item}}
+use Rattle.item_terms.specs.{Words.is_keyword_line, declared.fault.{DocFault.DocFault, DocReason.TheVariants.Keyword}}
+use Rattle.grammar_laws.{specs.Blocks.{AreBlankLines, AreLinesOfItems}, proofs.BlockFronts.items_are_there}
+use Rattle.frame_terms.specs.{Documents.{Document, document_of, finish, read_items}, Keywords.same}
 use Rattle.frame_terms.specs.declared.fault.ReadRefusal.{ReadRefusal}
 use Rattle.frame_values.specs.declared.values.Value.{Value}
-use Rattle.vote_frame.specs.Tables.{vote_tables}
-use Rattle.vote_frame.specs.declared.frame.VoteSection.{VoteSection}
-use Rattle.vote_frame.specs.declared.frame.VoteValue.{VoteValue}
+use Rattle.vote_frame.specs.{Tables.vote_tables, declared.frame.{VoteSection.VoteSection, VoteValue.VoteValue}}
 use Rattle.vote_terms.specs.Votes.{ReadVote, max_vote}
-use Rattle.vote_doc.specs.Kept.{kept_with, none_kept}
-use Rattle.vote_doc.specs.Reading.{with_facts}
+use Rattle.vote_doc.specs.{Kept.{kept_with, none_kept}, Reading.with_facts}
 use Rattle.vote_feed.specs.Ended.{BlankLinesAreNone}
 
 -- what a line makes of what follows it, where nothing is open before it

@@ -1,38 +1,23 @@
 -- A vote that was read ends there, whatever follows it.
-use Rattle.std.proofs.Common.{◌≡◌, ℕ, ◌+◌, true, List, [], ◌∷◌, ◌++◌, length, take, Result}
-use Rattle.std.proofs.Common.{Ok, Err}
-use Rattle.std.proofs.Common.{refl, sym, ap, subst, ◌∙◌, arith, append_assoc}
-use Rattle.std.specs.Prelude.{is_some}
-use Rattle.item_terms.specs.Items.{Contents, Item, contents_of, items_from, nothing}
-use Rattle.item_terms.specs.Lines.{Line, lines}
+use Rattle.std.proofs.Common.{◌≡◌, ℕ, ◌+◌, true, List, [], ◌∷◌, ◌++◌, length, take, Result, Ok, Err, refl, sym, ap}
+use Rattle.std.{proofs.Common.{subst, ◌∙◌, arith, append_assoc}, specs.Prelude.is_some}
+use Rattle.item_terms.specs.{Items.{Contents, Item, contents_of, items_from, nothing}, Lines.{Line, lines}}
 use Rattle.dirdoc_grammar.specs.Writing.{in_front}
-use Rattle.frame_terms.specs.Documents.{Document, document_of, finish}
-use Rattle.frame_terms.specs.declared.fault.ReadRefusal.{ReadRefusal}
+use Rattle.frame_terms.specs.{Documents.{Document, document_of, finish}, declared.fault.ReadRefusal.ReadRefusal}
 use Rattle.frame_values.specs.declared.values.Value.{Value}
-use Rattle.grammar_laws.specs.Moved.{sizes}
-use Rattle.grammar_laws.proofs.LastLines.{cut_lines}
-use Rattle.grammar_laws.proofs.LinesTogether.{AllEnded, both_read, lines_both}
-use Rattle.grammar_laws.proofs.OwnLines.{lines_cut}
-use Rattle.grammar_laws.proofs.OwnPart.{within_text}
-use Rattle.grammar_laws.proofs.SoundLines.{ends_all}
-use Rattle.document_laws.specs.Order.{items_of}
-use Rattle.document_laws.specs.Documents.{AreParts, IsDocument}
-use Rattle.document_laws.specs.Documents.{EndsSo as AllEndSo}
+use Rattle.grammar_laws.{specs.Moved.sizes, proofs.{LastLines.cut_lines, LinesTogether.{AllEnded, both_read}}}
+use Rattle.grammar_laws.proofs.{LinesTogether.lines_both, OwnLines.lines_cut, OwnPart.within_text, SoundLines.ends_all}
+use Rattle.document_laws.specs.{Order.items_of, Documents.{AreParts, IsDocument, EndsSo as AllEndSo}}
 use Rattle.vote_kinds.proofs.ClearVotes.{vote_kinds_are_exact}
-use Rattle.vote_frame.specs.Tables.{vote_tables}
-use Rattle.vote_frame.specs.declared.frame.VoteSection.{VoteSection}
+use Rattle.vote_frame.specs.{Tables.vote_tables, declared.frame.{VoteSection.VoteSection, VoteValue.VoteValue}}
 use Rattle.vote_frame.specs.declared.frame.VoteSection.TheVariants as section
-use Rattle.vote_frame.specs.declared.frame.VoteValue.{VoteValue}
 use Rattle.vote_terms.specs.Votes.{ReadVote, max_vote}
-use Rattle.vote_doc.specs.Kept.{kept_with, none_kept}
-use Rattle.vote_doc.specs.Reading.{vote_of, with_facts}
-use Rattle.vote_feed.specs.Feeding.{EndsSo, end_of}
+use Rattle.vote_doc.specs.{Kept.{kept_with, none_kept}, Reading.{vote_of, with_facts}}
+use Rattle.vote_feed.{specs.{Feeding.{EndsSo, end_of}, Ended.{OpenVotesAreNone, VotesEnd}}, proofs.Votes.known_more}
+use Rattle.vote_feed.proofs.{Votes.whole_there, LastPart.{VotePart, at_last, ends_at, ends_with, footer_last}}
+use Rattle.vote_feed.proofs.{LastPart.{is_signed, items_last, last_part, name_of, of_last}, Lasts.last_image}
+use Rattle.vote_feed.proofs.Lasts.{same_last}
 use Rattle.vote_parts.proofs.VoteEnds.{vote_ends}
-use Rattle.vote_feed.proofs.Votes.{known_more, whole_there}
-use Rattle.vote_feed.specs.Ended.{OpenVotesAreNone, VotesEnd}
-use Rattle.vote_feed.proofs.LastPart.{VotePart, at_last, ends_at, ends_with}
-use Rattle.vote_feed.proofs.LastPart.{footer_last, is_signed, items_last, last_part, name_of, of_last}
-use Rattle.vote_feed.proofs.Lasts.{last_image, same_last}
 
 abbrev VoteDocument : Type 0
 VoteDocument = Document VoteSection (Value VoteValue)

@@ -1,31 +1,21 @@
 -- What a feeder knows of the bytes that it takes.
-use Rattle.std.proofs.Common.{◌≡◌, ◌∙◌, ℕ, ◌+◌, ◌-◌, ◌≤◌, ◌⊎◌, List, [], ◌++◌, length, take, drop}
-use Rattle.std.proofs.Common.{Option, Some, None, Ok, Err, refl, sym, ap, subst, inl, inr, arith}
-use Rattle.std.specs.Prelude.{min}
-use Rattle.std.proofs.lemmas.List.{append-nil, length-append, length-take, take_all, take-append-drop, take-append-le}
+use Rattle.std.proofs.Common.{◌≡◌, ◌∙◌, ℕ, ◌+◌, ◌-◌, ◌≤◌, ◌⊎◌, List, [], ◌++◌, length, take, drop, Option, Some, None}
+use Rattle.std.proofs.{Common.{Ok, Err, refl, sym, ap, subst, inl, inr, arith}, lemmas.List.{append-nil, length-append}}
+use Rattle.std.{proofs.lemmas.List.{length-take, take_all, take-append-drop, take-append-le}, specs.Prelude.min}
 use Rattle.dirdoc_grammar.specs.declared.cursor.Cursor.{Cursor}
 use Rattle.item_feeder.specs.Feeders.{KeepsWithin}
-use Rattle.frame_terms.specs.declared.document.Open.{Open}
-use Rattle.frame_terms.specs.declared.fault.FrameFault.{FrameFault}
-use Rattle.frame_terms.specs.declared.fault.ReadRefusal.TheVariants.{Frame}
+use Rattle.frame_terms.specs.declared.{document.Open.Open, fault.{FrameFault.FrameFault, ReadRefusal.TheVariants.Frame}}
 use Rattle.frame_values.specs.declared.values.Value.{Value}
-use Rattle.vote_frame.specs.declared.across.Across.{Across}
-use Rattle.vote_frame.specs.declared.frame.VoteSection.{VoteSection}
-use Rattle.vote_frame.specs.declared.frame.VoteValue.{VoteValue}
+use Rattle.vote_frame.specs.declared.{across.Across.Across, frame.{VoteSection.VoteSection, VoteValue.VoteValue}}
 use Rattle.vote_doc.specs.declared.kept.Kept.{Kept}
 use Rattle.vote_terms.specs.Votes.{max_vote}
-use Rattle.vote_feed.specs.declared.blanks.Blank.{Blank}
-use Rattle.vote_feed.specs.declared.fed.Fed.{Fed}
-use Rattle.vote_feed.specs.declared.fed.Fed.TheVariants as fed
-use Rattle.vote_feed.specs.declared.feeder.State.{State}
-use Rattle.vote_feed.specs.declared.feeder.State.TheVariants as state
-use Rattle.vote_feed.specs.declared.intake.Intake.{Intake}
-use Rattle.vote_feed.specs.declared.intake.Intake.TheVariants as intake
-use Rattle.vote_feed.specs.Blanks.{blank_of}
-use Rattle.vote_feed.specs.Feeding.{EndsSo, Feeds, IsFaulty, IsOpen, IsWhole}
-use Rattle.vote_feed.specs.Lending.{IsKeptOf, IsKnown, Keeps, Knows, TakesIn, VoteWaits, count_of, fed_of, state_of}
-use Rattle.vote_feed.specs.Lending.{taken_of}
+use Rattle.vote_feed.specs.declared.{blanks.Blank.Blank, fed.Fed.Fed, feeder.State.State, intake.Intake.Intake}
+use Rattle.vote_feed.specs.{Blanks.blank_of, Feeding.{EndsSo, Feeds, IsFaulty, IsOpen, IsWhole}, Lending.IsKeptOf}
+use Rattle.vote_feed.specs.Lending.{IsKnown, Keeps, Knows, TakesIn, VoteWaits, count_of, fed_of, state_of, taken_of}
 use Rattle.vote_feed.proofs.Votes.{is_open, not_both, nothing_known, whole_kept}
+use Rattle.vote_feed.specs.declared.fed.Fed.TheVariants as fed
+use Rattle.vote_feed.specs.declared.feeder.State.TheVariants as state
+use Rattle.vote_feed.specs.declared.intake.Intake.TheVariants as intake
 
 abbrev Begun : Type 0
 Begun = Open VoteSection (Value VoteValue)

@@ -1,23 +1,16 @@
 -- How far a document is read, item by item.
-use Rattle.std.proofs.Common.{◌≡◌, ◌∙◌, ℕ, ◌≤◌, ◌⊎◌, false, List, [], ◌∷◌, ◌++◌, length, drop, append_assoc}
-use Rattle.std.proofs.Common.{Option, Some, None, Result, Ok, Err, refl, sym, ap, subst, inl, inr, arith}
+use Rattle.std.proofs.Common.{◌≡◌, ◌∙◌, ℕ, ◌≤◌, ◌⊎◌, false, List, [], ◌∷◌, ◌++◌, length, drop, append_assoc, Option}
+use Rattle.std.proofs.Common.{Some, None, Result, Ok, Err, refl, sym, ap, subst, inl, inr, arith}
 use Rattle.std.proofs.lemmas.List.{drop-append-le, length-drop}
 use Rattle.item_terms.specs.Items as model
 use Rattle.item_terms.specs.Items.{Contents, also, contents, failed_contents, nothing}
 use Rattle.item_terms.specs.declared.fault.DocFault.{DocFault}
-use Rattle.dirdoc_grammar.specs.declared.cursor.Cursor.{Cursor}
-use Rattle.dirdoc_grammar.specs.declared.item.Item.{Item}
+use Rattle.dirdoc_grammar.specs.{declared.{cursor.Cursor.Cursor, item.Item.Item}, Cursors.{IsAt, behind, fed_by}}
+use Rattle.dirdoc_grammar.specs.{Feeding.{EndsNoEarlier, Fed, MayFollow, Settles, Takes, left_with}, Seen.seen_item}
+use Rattle.dirdoc_grammar.{specs.Writing.in_front, proofs.Cursors.{at_behind, at_more}}
 use Rattle.dirdoc_grammar.specs.declared.take.Take.TheVariants as take_
-use Rattle.dirdoc_grammar.specs.Cursors.{IsAt, behind, fed_by}
-use Rattle.dirdoc_grammar.specs.Feeding.{EndsNoEarlier, Fed, MayFollow, Settles, Takes, left_with}
-use Rattle.dirdoc_grammar.specs.Seen.{seen_item}
-use Rattle.dirdoc_grammar.specs.Writing.{in_front}
-use Rattle.dirdoc_grammar.proofs.Cursors.{at_behind, at_more}
-use Rattle.frame_terms.specs.declared.document.Open.{Open}
-use Rattle.frame_terms.specs.declared.document.Taken.{Taken}
-use Rattle.frame_terms.specs.declared.fault.ReadRefusal.{ReadRefusal}
-use Rattle.frame_terms.specs.Documents.{Document, document_of, finish, read_items, start}
-use Rattle.frame_terms.specs.Refusals.{of_doc}
+use Rattle.frame_terms.specs.declared.{document.{Open.Open, Taken.Taken}, fault.ReadRefusal.ReadRefusal}
+use Rattle.frame_terms.specs.{Documents.{Document, document_of, finish, read_items, start}, Refusals.of_doc}
 use Rattle.frame_terms.specs.Tables.{Tables}
 use Rattle.frame_reader.specs.Turning.{Turns}
 use Rattle.vote_feed.specs.SoFar.{SoFar, Waits, used_of}

@@ -1,31 +1,17 @@
 -- Where a document ends with an item, it is that document up to the item's end, whatever follows.
-use Rattle.std.proofs.Common.{◌≡◌, ◌∙◌, ℕ, ◌+◌, true, List, [], ◌∷◌, ◌++◌, take, append_assoc, Option, Some}
-use Rattle.std.proofs.Common.{Result, Ok, Err, sym, ap, subst, arith}
-use Rattle.std.specs.Prelude.{is_some}
-use Rattle.item_terms.specs.declared.fault.DocFault.{DocFault}
-use Rattle.item_terms.specs.declared.fault.DocReason.TheVariants.{Unterminated}
-use Rattle.item_terms.specs.Faults.{at}
-use Rattle.item_terms.specs.Items.{Contents, Item, contents, contents_of, nothing}
-use Rattle.item_terms.specs.Lines.{Line, lines}
+use Rattle.std.proofs.Common.{◌≡◌, ◌∙◌, ℕ, ◌+◌, true, List, [], ◌∷◌, ◌++◌, take, append_assoc, Option, Some, Result, Ok}
+use Rattle.std.{proofs.Common.{Err, sym, ap, subst, arith}, specs.Prelude.is_some}
+use Rattle.item_terms.specs.{declared.fault.{DocFault.DocFault, DocReason.TheVariants.Unterminated}, Faults.at}
+use Rattle.item_terms.specs.{Items.{Contents, Item, contents, contents_of, nothing}, Lines.{Line, lines}}
 use Rattle.dirdoc_grammar.specs.Writing.{in_front}
-use Rattle.frame_terms.specs.declared.document.Made.{Made}
-use Rattle.frame_terms.specs.declared.document.Made.TheVariants.{Passes, Pushes, Opens, Enters, Leaves, Ends, Stops}
-use Rattle.frame_terms.specs.declared.document.Open.{Open}
-use Rattle.frame_terms.specs.declared.document.Taken.{Taken}
-use Rattle.frame_terms.specs.declared.fault.FrameFault.{FrameFault}
-use Rattle.frame_terms.specs.declared.fault.ReadRefusal.{ReadRefusal}
-use Rattle.frame_terms.specs.Decisions.{made_by}
+use Rattle.frame_terms.specs.declared.document.Made.{Made, TheVariants.{Passes, Pushes, Opens, Enters, Leaves, Ends}}
+use Rattle.frame_terms.specs.declared.document.{Made.TheVariants.Stops, Open.Open, Taken.Taken}
+use Rattle.frame_terms.specs.{declared.fault.{FrameFault.FrameFault, ReadRefusal.ReadRefusal}, Decisions.made_by}
 use Rattle.frame_terms.specs.Documents.{Document, after_made, after_noted, document_of, finish, go_on, note_of_made}
-use Rattle.frame_terms.specs.Documents.{read_items}
-use Rattle.frame_terms.specs.Refusals.{of_doc}
-use Rattle.frame_terms.specs.Tables.{Tables}
-use Rattle.grammar_laws.specs.Moved.{sizes}
-use Rattle.grammar_laws.specs.Parts.{EndWithObjects}
-use Rattle.grammar_laws.proofs.Endings.{HasObject, IsRight, made_right}
-use Rattle.grammar_laws.proofs.LastLines.{cut_lines}
-use Rattle.grammar_laws.proofs.LinesTogether.{AllEnded, both_read, lines_both}
-use Rattle.grammar_laws.proofs.OwnLines.{lines_cut}
-use Rattle.grammar_laws.proofs.SoundLines.{ends_all}
+use Rattle.frame_terms.specs.{Documents.read_items, Refusals.of_doc, Tables.Tables}
+use Rattle.grammar_laws.{specs.{Moved.sizes, Parts.EndWithObjects}, proofs.Endings.{HasObject, IsRight, made_right}}
+use Rattle.grammar_laws.proofs.{LastLines.cut_lines, LinesTogether.{AllEnded, both_read, lines_both}}
+use Rattle.grammar_laws.proofs.{OwnLines.lines_cut, SoundLines.ends_all}
 use Rattle.vote_feed.specs.SoFar.{used_of}
 
 abbrev place_or : Result ℕ ReadRefusal → ℕ

@@ -1,22 +1,15 @@
 -- A vote ends with the last item of its footer, which has an object.
-use Rattle.std.proofs.Common.{◌≡◌, ℕ, true, List, [], ◌∷◌, ◌++◌, Option, sym, ap, ◌∙◌, append_assoc}
-use Rattle.std.proofs.Common.{append-nil}
+use Rattle.std.proofs.Common.{◌≡◌, ℕ, true, List, [], ◌∷◌, ◌++◌, Option, sym, ap, ◌∙◌, append_assoc, append-nil}
 use Rattle.std.specs.Prelude.{is_some, replicate}
-use Rattle.item_terms.specs.Items.{Item}
-use Rattle.item_terms.specs.declared.fault.DocFault.{DocFault}
-use Rattle.frame_terms.specs.Keywords.{same}
-use Rattle.frame_terms.specs.declared.document.Taken.{Taken}
+use Rattle.item_terms.specs.{Items.Item, declared.fault.DocFault.DocFault}
+use Rattle.frame_terms.specs.{Keywords.same, declared.document.Taken.Taken}
 use Rattle.frame_terms.specs.declared.keyword.Keyword.TheVariants as the
 use Rattle.frame_values.specs.declared.values.Value.{Value}
-use Rattle.document_laws.specs.Order.{AreInOrder, Part, items_of}
-use Rattle.document_laws.specs.Passing.{EndsWith}
-use Rattle.document_laws.specs.Documents.{AreParts, EndsAt, EndsSo}
-use Rattle.document_laws.specs.Parts.{HasLast, IsPart}
-use Rattle.vote_frame.specs.Tables.{vote_tables}
-use Rattle.vote_frame.specs.declared.across.Across.{Across}
-use Rattle.vote_frame.specs.declared.frame.VoteSection.{VoteSection}
-use Rattle.vote_frame.specs.declared.frame.VoteSection.TheVariants as section
+use Rattle.document_laws.specs.{Order.{AreInOrder, Part, items_of}, Passing.EndsWith, Documents.{AreParts, EndsAt}}
+use Rattle.document_laws.specs.{Documents.EndsSo, Parts.{HasLast, IsPart}}
+use Rattle.vote_frame.specs.{Tables.vote_tables, declared.{across.Across.Across, frame.VoteSection.VoteSection}}
 use Rattle.vote_frame.specs.declared.frame.VoteValue.{VoteValue}
+use Rattle.vote_frame.specs.declared.frame.VoteSection.TheVariants as section
 use Rattle.vote_parts.proofs.VoteEnds.{vote_ends}
 
 abbrev pub VotePart : Type 0

@@ -1,24 +1,15 @@
 -- Where nothing is known of the rest, nothing is known of the document.
-use Rattle.std.proofs.Common.{◌≡◌, ◌∙◌, ℕ, ◌≤◌, false, List, [], ◌++◌, length, Result, Ok, Err, refl}
-use Rattle.std.proofs.Common.{sym, ap, inl, inr, arith}
-use Rattle.std.proofs.lemmas.Bool.{cases_lt}
-use Rattle.std.proofs.lemmas.List.{append_cancel_left, take-append-le, take_all}
+use Rattle.std.proofs.Common.{◌≡◌, ◌∙◌, ℕ, ◌≤◌, false, List, [], ◌++◌, length, Result, Ok, Err, refl, sym, ap, inl, inr}
+use Rattle.std.proofs.{Common.arith, lemmas.{Bool.cases_lt, List.{append_cancel_left, take-append-le, take_all}}}
 use Rattle.item_terms.specs.Items.{Contents, contents, nothing}
-use Rattle.dirdoc_grammar.specs.declared.cursor.Cursor.{Cursor}
-use Rattle.dirdoc_grammar.specs.Cursors.{fed_by}
-use Rattle.dirdoc_grammar.specs.Feeding.{first_by, first_of, left_with}
+use Rattle.dirdoc_grammar.specs.{declared.cursor.Cursor.Cursor, Cursors.fed_by, Feeding.{first_by, first_of, left_with}}
 use Rattle.dirdoc_grammar.specs.Writing.{in_front}
 use Rattle.item_feeder.proofs.BehindLimit.{limit_is_enough}
-use Rattle.frame_terms.specs.declared.document.Open.{Open}
-use Rattle.frame_terms.specs.declared.document.Taken.{Taken}
-use Rattle.frame_terms.specs.declared.fault.ReadRefusal.{ReadRefusal}
-use Rattle.frame_terms.specs.Documents.{Document, document_of, finish, read_items}
-use Rattle.frame_terms.specs.Tables.{Tables}
+use Rattle.frame_terms.specs.declared.{document.{Open.Open, Taken.Taken}, fault.ReadRefusal.ReadRefusal}
+use Rattle.frame_terms.specs.{Documents.{Document, document_of, finish, read_items}, Tables.Tables}
 use Rattle.frame_reader.specs.Arriving.{whole_of}
-use Rattle.document_laws.specs.Known.{HasNoDoc}
-use Rattle.document_laws.proofs.Opening.{all_is_open}
-use Rattle.vote_feed.specs.SoFar.{Waits, used_of}
-use Rattle.vote_feed.proofs.Going.{made_on}
+use Rattle.document_laws.{specs.Known.HasNoDoc, proofs.Opening.all_is_open}
+use Rattle.vote_feed.{specs.SoFar.{Waits, used_of}, proofs.Going.made_on}
 
 -- ---- a document of which nothing is kept
 

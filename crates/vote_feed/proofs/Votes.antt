@@ -3,44 +3,28 @@ use Rattle.std.proofs.Common.{◌≡◌, ◌∙◌, ℕ, ◌+◌, ◌-◌, ◌�
 use Rattle.std.proofs.Common.{append_assoc, Option, Some, None, Result, Ok, Err, refl, sym, ap, subst, inl, inr, arith}
 use Rattle.std.proofs.lemmas.List.{append-nil, length-append, length-take-le, take-append-drop, take_all}
 use Rattle.std.proofs.Math.Seq.{take-append-add}
-use Rattle.item_terms.specs.Items.{Contents, also, contents, nothing}
-use Rattle.item_terms.specs.declared.fault.DocFault.{DocFault}
-use Rattle.dirdoc_grammar.specs.declared.cursor.Cursor.{Cursor}
-use Rattle.dirdoc_grammar.specs.declared.item.Item.{Item}
+use Rattle.item_terms.specs.{Items.{Contents, also, contents, nothing}, declared.fault.DocFault.DocFault}
+use Rattle.dirdoc_grammar.specs.{declared.{cursor.Cursor.Cursor, item.Item.Item, take.Take.Take}, Cursors.IsAt}
+use Rattle.dirdoc_grammar.specs.{Cursors.{behind, fed_by}, Feeding.{EndsNoEarlier, IfNotYet, Takes, left_with}}
+use Rattle.dirdoc_grammar.{specs.Seen.seen_item, proofs.{Cursors.at_behind, Giving.gives_quiet}}
 use Rattle.dirdoc_grammar.specs.declared.take.Take.TheVariants as take_
-use Rattle.dirdoc_grammar.specs.Cursors.{IsAt, behind, fed_by}
-use Rattle.dirdoc_grammar.specs.declared.take.Take.{Take}
-use Rattle.dirdoc_grammar.specs.Feeding.{EndsNoEarlier, IfNotYet, Takes, left_with}
-use Rattle.dirdoc_grammar.specs.Seen.{seen_item}
-use Rattle.dirdoc_grammar.proofs.Cursors.{at_behind}
-use Rattle.dirdoc_grammar.proofs.Giving.{gives_quiet}
-use Rattle.frame_terms.specs.declared.document.Open.{Open}
-use Rattle.frame_terms.specs.declared.fault.FrameFault.{FrameFault}
-use Rattle.frame_terms.specs.declared.fault.ReadRefusal.{ReadRefusal}
-use Rattle.frame_terms.specs.declared.fault.ReadRefusal.TheVariants.{Frame}
-use Rattle.frame_terms.specs.Documents.{Document, document_of, finish, start}
-use Rattle.frame_terms.specs.Refusals.{of_doc}
+use Rattle.frame_terms.specs.declared.{document.Open.Open, fault.{FrameFault.FrameFault, ReadRefusal.ReadRefusal}}
+use Rattle.frame_terms.specs.{declared.fault.ReadRefusal.TheVariants.Frame, Documents.{Document, document_of, finish}}
+use Rattle.frame_terms.specs.{Documents.start, Refusals.of_doc}
 use Rattle.frame_values.specs.declared.values.Value.{Value}
 use Rattle.frame_reader.specs.Turning.{Turns}
-use Rattle.frame_reader.specs.declared.arriving.Reached.{Reached}
-use Rattle.frame_reader.specs.declared.arriving.Reached.TheVariants as reached
-use Rattle.vote_frame.specs.declared.across.Across.{Across}
-use Rattle.vote_frame.specs.declared.frame.VoteSection.{VoteSection}
-use Rattle.vote_frame.specs.declared.frame.VoteValue.{VoteValue}
+use Rattle.vote_feed.specs.{declared.machine.Reached.Reached, SoFar.used_of, Feeding.{EndsSo, IsFaulty, IsOpen}}
+use Rattle.vote_feed.specs.{Feeding.{IsWhole, end_of}, Lending.{Comes, IsKeptOf, TakesIn, VoteSoFar, VoteWaits}}
+use Rattle.vote_feed.proofs.{Going.{Late, ends_late, ends_within}, LastItem.{last_item, whole_part}, Opening.not_beyond}
+use Rattle.vote_feed.proofs.Opening.{open_now}
+use Rattle.vote_feed.specs.declared.machine.Reached.TheVariants as reached
+use Rattle.vote_frame.specs.declared.{across.Across.Across, frame.{VoteSection.VoteSection, VoteValue.VoteValue}}
 use Rattle.vote_frame.specs.Tables.{vote_tables}
 use Rattle.vote_terms.specs.Votes.{ReadVote, max_vote}
-use Rattle.vote_doc.specs.declared.kept.Kept.{Kept}
-use Rattle.vote_doc.specs.Facts.{vote_in}
-use Rattle.vote_doc.specs.Kept.{kept_with, none_kept}
-use Rattle.vote_doc.specs.Reading.{ReadsVote, vote_of, with_facts}
-use Rattle.vote_feed.specs.SoFar.{used_of}
-use Rattle.vote_feed.specs.Feeding.{EndsSo, IsFaulty, IsOpen, IsWhole, end_of}
-use Rattle.vote_feed.specs.Lending.{Comes, IsKeptOf, TakesIn, VoteSoFar, VoteWaits}
+use Rattle.vote_doc.specs.{declared.kept.Kept.Kept, Facts.vote_in, Kept.{kept_with, none_kept}, Reading.ReadsVote}
+use Rattle.vote_doc.specs.Reading.{vote_of, with_facts}
 use Rattle.vote_feed.specs.declared.intake.Intake.TheVariants as intake
 use Rattle.vote_feed.proofs.Going as going
-use Rattle.vote_feed.proofs.Going.{Late, ends_late, ends_within}
-use Rattle.vote_feed.proofs.LastItem.{last_item, whole_part}
-use Rattle.vote_feed.proofs.Opening.{not_beyond, open_now}
 use Rattle.vote_kinds.proofs.NoDocVotes.{vote_kinds_have_no_doc}
 use Rattle.vote_parts.proofs.VoteEnds.{vote_ends}
 

@@ -1,26 +1,18 @@
 -- The bytes of a vote are that vote wherever they stand, and whatever follows them.
-use Rattle.std.proofs.Common.{◌≡◌, ℕ, ◌+◌, List, [], ◌++◌, length, take, Result, Ok, Err}
-use Rattle.std.proofs.Common.{refl, sym, ap, subst, ◌∙◌, arith, append-nil}
-use Rattle.std.proofs.Math.Seq.{drop-append_seam, take-append_seam}
-use Rattle.std.proofs.lemmas.List.{take_all}
+use Rattle.std.proofs.Common.{◌≡◌, ℕ, ◌+◌, List, [], ◌++◌, length, take, Result, Ok, Err, refl, sym, ap, subst, ◌∙◌}
+use Rattle.std.proofs.{Common.{arith, append-nil}, Math.Seq.{drop-append_seam, take-append_seam}, lemmas.List.take_all}
 use Rattle.item_terms.specs.Items.{items_of}
-use Rattle.frame_terms.specs.Documents.{document_of, finish}
-use Rattle.frame_terms.specs.declared.fault.FrameFault.{FrameFault}
-use Rattle.frame_terms.specs.declared.fault.ReadRefusal.{ReadRefusal}
-use Rattle.frame_terms.specs.declared.fault.ReadRefusal.TheVariants.{Frame}
+use Rattle.frame_terms.specs.{Documents.{document_of, finish}, declared.fault.FrameFault.FrameFault}
+use Rattle.frame_terms.specs.declared.fault.ReadRefusal.{ReadRefusal, TheVariants.Frame}
 use Rattle.grammar_laws.proofs.OwnPart.{own_part_same}
 use Rattle.vote_frame.specs.Tables.{vote_tables}
 use Rattle.vote_terms.specs.Votes.{ReadVote, max_vote}
 use Rattle.blank_lines.specs.Behind.{behind}
-use Rattle.vote_doc.specs.declared.kept.Kept.{Kept}
-use Rattle.vote_doc.specs.Facts.{vote_in}
-use Rattle.vote_doc.specs.Kept.{kept_with, none_kept}
-use Rattle.vote_doc.specs.Reading.{vote_of, with_facts}
-use Rattle.vote_feed.specs.Feeding.{IsFaulty, end_of}
-use Rattle.vote_parts.specs.Own.{VoteDocument, says}
-use Rattle.vote_parts.proofs.VoteEnds.{vote_ends}
-use Rattle.vote_feed.proofs.FedVotes.{end_or}
-use Rattle.vote_feed.specs.Whole.{FaultyVotesStand, VotesMove, WholeVotesStand, WholeVotesStay}
+use Rattle.vote_doc.specs.{declared.kept.Kept.Kept, Facts.vote_in, Kept.{kept_with, none_kept}, Reading.vote_of}
+use Rattle.vote_doc.specs.Reading.{with_facts}
+use Rattle.vote_feed.specs.{Feeding.{IsFaulty, end_of}, Whole.{FaultyVotesStand, VotesMove, WholeVotesStand}}
+use Rattle.vote_feed.{specs.Whole.WholeVotesStay, proofs.FedVotes.end_or}
+use Rattle.vote_parts.{specs.Own.{VoteDocument, says}, proofs.VoteEnds.vote_ends}
 
 abbrev document_in : List ℕ → Result VoteDocument ReadRefusal
 document_in bytes = document_of vote_tables (length bytes) (items_of max_vote bytes)

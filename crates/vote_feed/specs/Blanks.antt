@@ -1,10 +1,7 @@
 -- What bytes are that may be blank lines alone, byte by byte.
-use Rattle.std.specs.Prelude.{ℕ, ◌==◌, Bool, true, false, List, if◌then◌else◌}
-use Rattle.std.specs.List.{fold}
-use Rattle.item_terms.specs.Bytes.{line_feed}
-use Rattle.item_terms.specs.Words.{is_blank}
-use Rattle.vote_feed.specs.declared.blanks.Blank.{Blank}
-use Rattle.vote_feed.specs.declared.blanks.Blank.TheVariants.{Lines, Within, Other}
+use Rattle.std.specs.{Prelude.{ℕ, ◌==◌, Bool, true, false, List, if◌then◌else◌}, List.fold}
+use Rattle.item_terms.specs.{Bytes.line_feed, Words.is_blank}
+use Rattle.vote_feed.specs.declared.blanks.Blank.{Blank, TheVariants.{Lines, Within, Other}}
 
 -- what a byte makes of blank lines
 abbrev pub blank_by : ℕ → Blank

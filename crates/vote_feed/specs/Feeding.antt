@@ -1,15 +1,10 @@
 -- A vote whose bytes arrive piece by piece (dir-spec, "Vote and consensus status document formats").
-use Rattle.std.specs.Prelude.{◌≡◌, ◌&&◌, ℕ, ◌≤◌, Bool, List, ◌++◌, length, take, Result, Ok, Err}
-use Rattle.std.specs.List.{list_all}
-use Rattle.item_terms.specs.Lines.{Line, lines}
-use Rattle.item_terms.specs.Words.{is_blank_line}
-use Rattle.frame_terms.specs.declared.fault.FrameFault.{FrameFault}
-use Rattle.frame_terms.specs.declared.fault.ReadRefusal.{ReadRefusal}
-use Rattle.frame_terms.specs.declared.fault.ReadRefusal.TheVariants.{Frame}
+use Rattle.std.specs.{Prelude.{◌≡◌, ◌&&◌, ℕ, ◌≤◌, Bool, List, ◌++◌, length, take, Result, Ok, Err}, List.list_all}
+use Rattle.item_terms.specs.{Lines.{Line, lines}, Words.is_blank_line}
+use Rattle.frame_terms.specs.declared.fault.{FrameFault.FrameFault, ReadRefusal.{ReadRefusal, TheVariants.Frame}}
 use Rattle.vote_terms.specs.Votes.{ReadVote}
 use Rattle.vote_doc.specs.Reading.{vote_of}
-use Rattle.vote_feed.specs.declared.fed.Fed.{Fed}
-use Rattle.vote_feed.specs.declared.fed.Fed.TheVariants.{All, Whole, Fault}
+use Rattle.vote_feed.specs.declared.fed.Fed.{Fed, TheVariants.{All, Whole, Fault}}
 
 -- where a vote ends that was read, or why none was
 abbrev pub end_of : Result (ReadVote × ℕ) ReadRefusal → Result ℕ ReadRefusal

@@ -4,30 +4,20 @@ use Rattle.std.specs.Prelude.{Err}
 use Rattle.dirdoc_grammar.specs.declared.cursor.Cursor.{Cursor}
 use Rattle.item_feeder.specs.Feeders.{KeepsWithin}
 use Rattle.item_terms.specs.Items.{contents, nothing}
-use Rattle.frame_terms.specs.declared.document.Open.{Open}
-use Rattle.frame_terms.specs.declared.fault.ReadRefusal.{ReadRefusal}
-use Rattle.frame_terms.specs.declared.fault.ReadRefusal.TheVariants.{Frame, Memory}
+use Rattle.frame_terms.specs.declared.{document.Open.Open, fault.ReadRefusal.{ReadRefusal, TheVariants.{Frame, Memory}}}
 use Rattle.frame_terms.specs.Documents.{document_of, finish}
 use Rattle.frame_values.specs.declared.values.Value.{Value}
-use Rattle.frame_reader.specs.declared.arriving.Reached.{Reached}
-use Rattle.frame_reader.specs.declared.arriving.Reached.TheVariants as reached
-use Rattle.vote_frame.specs.declared.across.Across.{Across}
-use Rattle.vote_frame.specs.declared.frame.VoteSection.{VoteSection}
-use Rattle.vote_frame.specs.declared.frame.VoteValue.{VoteValue}
+use Rattle.vote_feed.specs.declared.{machine.Reached.Reached, blanks.Blank.Blank, fed.Fed.Fed, feeder.State.State}
+use Rattle.vote_feed.specs.{declared.intake.Intake.Intake, Blanks.blank_of, SoFar.{SoFar, Waits}, Feeding.EndsSo}
+use Rattle.vote_feed.specs.Feeding.{IsFaulty, IsOpen, IsWhole}
+use Rattle.vote_feed.specs.declared.machine.Reached.TheVariants as reached
+use Rattle.vote_frame.specs.declared.{across.Across.Across, frame.{VoteSection.VoteSection, VoteValue.VoteValue}}
 use Rattle.vote_frame.specs.Tables.{vote_tables}
-use Rattle.vote_doc.specs.declared.kept.Kept.{Kept}
-use Rattle.vote_doc.specs.Kept.{kept_with, none_kept}
+use Rattle.vote_doc.specs.{declared.kept.Kept.Kept, Kept.{kept_with, none_kept}}
 use Rattle.vote_terms.specs.Votes.{max_vote}
-use Rattle.vote_feed.specs.declared.blanks.Blank.{Blank}
-use Rattle.vote_feed.specs.declared.fed.Fed.{Fed}
 use Rattle.vote_feed.specs.declared.fed.Fed.TheVariants as fed
-use Rattle.vote_feed.specs.declared.feeder.State.{State}
 use Rattle.vote_feed.specs.declared.feeder.State.TheVariants as state
-use Rattle.vote_feed.specs.declared.intake.Intake.{Intake}
 use Rattle.vote_feed.specs.declared.intake.Intake.TheVariants as intake
-use Rattle.vote_feed.specs.Blanks.{blank_of}
-use Rattle.vote_feed.specs.SoFar.{SoFar, Waits}
-use Rattle.vote_feed.specs.Feeding.{EndsSo, IsFaulty, IsOpen, IsWhole}
 
 -- ---- how far a vote is read
 

@@ -1,16 +1,10 @@
 -- How far a document is read whose bytes arrive.
 use Rattle.std.specs.Prelude.{◌≡◌, ℕ, false, List, ◌++◌, length, Option, Result, Ok, Err}
-use Rattle.item_terms.specs.Items.{Item, contents, nothing}
-use Rattle.item_terms.specs.declared.fault.DocFault.{DocFault}
-use Rattle.dirdoc_grammar.specs.declared.cursor.Cursor.{Cursor}
-use Rattle.dirdoc_grammar.specs.Cursors.{IsAt, fed_by}
-use Rattle.dirdoc_grammar.specs.Feeding.{EndsNoEarlier, Settles, left_with}
-use Rattle.dirdoc_grammar.specs.Writing.{in_front}
-use Rattle.frame_terms.specs.declared.document.Open.{Open}
-use Rattle.frame_terms.specs.declared.document.Taken.{Taken}
-use Rattle.frame_terms.specs.declared.fault.ReadRefusal.{ReadRefusal}
-use Rattle.frame_terms.specs.Documents.{Document, document_of, finish, read_items}
-use Rattle.frame_terms.specs.Tables.{Tables}
+use Rattle.item_terms.specs.{Items.{Item, contents, nothing}, declared.fault.DocFault.DocFault}
+use Rattle.dirdoc_grammar.specs.{declared.cursor.Cursor.Cursor, Cursors.{IsAt, fed_by}, Feeding.EndsNoEarlier}
+use Rattle.dirdoc_grammar.specs.{Feeding.{Settles, left_with}, Writing.in_front}
+use Rattle.frame_terms.specs.declared.{document.{Open.Open, Taken.Taken}, fault.ReadRefusal.ReadRefusal}
+use Rattle.frame_terms.specs.{Documents.{Document, document_of, finish, read_items}, Tables.Tables}
 
 -- where a document ends, or why it is refused
 abbrev pub used_of : {S V : Type 0} → Result (Document S V) ReadRefusal → Result ℕ ReadRefusal

@@ -1,7 +1,6 @@
 -- The bytes of a vote inside an input (dir-spec, "Vote and consensus status document formats").
 use Rattle.std.specs.Prelude.{◌≡◌, ℕ, ◌+◌, List, ◌++◌, length, Ok, Err}
-use Rattle.frame_terms.specs.declared.fault.FrameFault.{FrameFault}
-use Rattle.frame_terms.specs.declared.fault.ReadRefusal.TheVariants.{Frame}
+use Rattle.frame_terms.specs.declared.fault.{FrameFault.FrameFault, ReadRefusal.TheVariants.Frame}
 use Rattle.vote_terms.specs.Votes.{ReadVote}
 use Rattle.blank_lines.specs.Behind.{behind, fault_behind}
 use Rattle.vote_doc.specs.Reading.{vote_from, vote_of}

@@ -5,9 +5,8 @@ ghost use Rattle.vote_terms.specs.Votes.{max_vote};
 ghost use Rattle.vote_doc.specs.Reading.{ReadsVote};
 ghost use Rattle.vote_feed.specs.declared.fed.Fed.TheVariants as given;
 ghost use Rattle.vote_feed.specs.declared.feeder.State.TheVariants as states;
-ghost use Rattle.vote_feed.specs.Feeding.{Feeds, IsFaulty, IsOpen, IsWhole, are_blank_lines};
+ghost use Rattle.vote_feed.specs.{Feeding.{Feeds, IsFaulty, IsOpen, IsWhole, are_blank_lines}, Lending.IsKnown};
 ghost use Rattle.vote_feed.specs.Lending as terms;
-ghost use Rattle.vote_feed.specs.Lending.{IsKnown};
 
 use crate::blanks::{Blank, blank_after};
 use crate::fed::Fed;

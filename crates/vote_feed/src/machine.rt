@@ -1,11 +1,10 @@
 // How far a vote is read whose bytes arrive.
 ghost use Rattle.std.specs.Prelude.{◌<◌, ◌^◌, List, ℕ, false, length, IfOk};
-ghost use Rattle.dirdoc_grammar.specs.Cursors.{fed_by};
-ghost use Rattle.dirdoc_grammar.specs.Feeding.{EndsNoEarlier};
+ghost use Rattle.dirdoc_grammar.specs.{Cursors.fed_by, Feeding.EndsNoEarlier};
 ghost use Rattle.vote_feed.specs.Lending.{Comes, VoteSoFar};
 
 use dirdoc_grammar::{Cursor, Take};
-use frame_reader::{Reached, Reader};
+use frame_reader::Reader;
 use frame_terms::ReadRefusal;
 use std::alloc::{AllocError, Global};
 use vote_doc::{Kept, nothing_kept};
@@ -13,6 +12,15 @@ use vote_frame::VoteFrame;
 
 /// How many bytes a vote may have.
 pub(crate) const MAX_VOTE: usize = vote_terms::MAX_VOTE as usize;
+
+/// How far a vote has come.
+#[derive(Clone, Copy)]
+pub(crate) enum Reached {
+    /// All that has come is read, and the vote is neither whole nor faulty.
+    All,
+    /// The vote is whole, and ends at this place.
+    Whole(u64),
+}
 
 /// How far a vote is read.
 #[derive(Drop)]

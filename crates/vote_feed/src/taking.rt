@@ -1,13 +1,11 @@
 // What comes of more bytes of a vote.
 ghost use Rattle.std.specs.Prelude.{◌≡◌, ◌≤◌, ◌+◌, length, true, vec_len, IfOk, OnErr, OnOk};
 ghost use Rattle.vote_terms.specs.Votes.{max_vote};
-ghost use Rattle.vote_feed.specs.Feeding.{IsOpen};
-ghost use Rattle.vote_feed.specs.Lending.{TakesIn, VoteWaits};
+ghost use Rattle.vote_feed.specs.{Feeding.IsOpen, Lending.{TakesIn, VoteWaits}};
 
 use crate::intake::Intake;
-use crate::machine::{Machine, read_on};
+use crate::machine::{Machine, Reached, read_on};
 use dir_bytes::Memory;
-use frame_reader::Reached;
 use frame_terms::ReadRefusal;
 use std::alloc::Global;
 

@@ -1,15 +1,12 @@
 -- What is remembered across the sections of a vote: the relays that it lists, and which shared random values stand. Each of
 -- these stands once in all, in the preamble or in the section of the authority.
 use Rattle.std.specs.Prelude.{ℕ, Bool, true, false, Result, Ok, Err, if◌then◌else◌}
-use Rattle.frame_terms.specs.declared.fault.FrameFault.{FrameFault}
+use Rattle.frame_terms.specs.declared.{fault.FrameFault.FrameFault, keyword.Keyword.Keyword}
 use Rattle.frame_terms.specs.declared.fault.FrameReason.TheVariants as reason
-use Rattle.frame_terms.specs.declared.keyword.Keyword.{Keyword}
 use Rattle.frame_terms.specs.declared.keyword.Keyword.TheVariants as the
-use Rattle.value_groups.specs.declared.line.RandomLine.{RandomLine}
-use Rattle.value_groups.specs.declared.line.RandomLine.TheVariants.{Previous, Current}
+use Rattle.value_groups.specs.declared.line.RandomLine.{RandomLine, TheVariants.{Previous, Current}}
 use Rattle.value_groups.specs.declared.value.SharedRandom.{SharedRandom}
-use Rattle.relay_entries.specs.declared.listed.Listed.{Listed}
-use Rattle.relay_entries.specs.Listing.{fault_at, none_listed}
+use Rattle.relay_entries.specs.{declared.listed.Listed.Listed, Listing.{fault_at, none_listed}}
 use Rattle.vote_frame.specs.declared.across.Across.{Across}
 
 -- nothing yet

@@ -1,42 +1,28 @@
 -- The sections of a vote, their items, and what these say (dir-spec, "Vote and consensus status document formats").
 use Rattle.std.specs.Prelude.{ℕ, Bool, false, List, [], ◌∷◌, Some, None, Result, Ok, codes}
 use Rattle.item_terms.specs.Items.{Item}
-use Rattle.frame_terms.specs.declared.fault.FrameFault.{FrameFault}
-use Rattle.frame_terms.specs.declared.keyword.Keyword.{Keyword}
-use Rattle.frame_terms.specs.declared.keyword.Keyword.TheVariants as the
-use Rattle.frame_terms.specs.declared.row.Count.TheVariants.{One, Optional}
-use Rattle.frame_terms.specs.declared.row.Limit.TheVariants as limit
-use Rattle.frame_terms.specs.declared.row.Row.{Row}
-use Rattle.frame_terms.specs.declared.section.Again.TheVariants as again
-use Rattle.frame_terms.specs.declared.section.Shape.{Shape}
-use Rattle.frame_terms.specs.Rows.{row}
+use Rattle.frame_terms.specs.declared.{fault.FrameFault.FrameFault, keyword.Keyword.Keyword, row.Count.TheVariants.One}
+use Rattle.frame_terms.specs.{declared.{row.{Count.TheVariants.Optional, Row.Row}, section.Shape.Shape}, Rows.row}
 use Rattle.frame_terms.specs.Tables.{Tables}
-use Rattle.frame_values.specs.declared.values.Value.{Value}
-use Rattle.frame_values.specs.declared.values.Value.TheVariants as value
-use Rattle.frame_values.specs.Faults.{at_place, too_many, unless_fault}
-use Rattle.frame_values.specs.Arguments.{next}
+use Rattle.frame_terms.specs.declared.keyword.Keyword.TheVariants as the
+use Rattle.frame_terms.specs.declared.row.Limit.TheVariants as limit
+use Rattle.frame_terms.specs.declared.section.Again.TheVariants as again
+use Rattle.frame_values.specs.{declared.values.Value.Value, Faults.{at_place, too_many, unless_fault}, Arguments.next}
 use Rattle.frame_values.specs.Lines.{literal, numbers_of, time_of, delays_of, flags_of, rest_of, source_of}
 use Rattle.frame_values.specs.Signatures.{signature_of}
-use Rattle.value_groups.specs.ListLines.{params_of, protocols_of, versions_of}
+use Rattle.frame_values.specs.declared.values.Value.TheVariants as value
+use Rattle.value_groups.specs.{ListLines.{params_of, protocols_of, versions_of}, Lines.random_of}
 use Rattle.authority_certs.specs.Tables.{cert_rows, cert_shape, cert_value}
-use Rattle.relay_entries.specs.declared.listed.Listed.{Listed}
-use Rattle.relay_entries.specs.Lines.{entry_value, is_ignored, lifted_entry_value}
-use Rattle.relay_entries.specs.Listing.{too_many_entries, note_entry}
-use Rattle.relay_entries.specs.Tables.{entry_rows, entry_shape}
-use Rattle.value_groups.specs.Lines.{random_of}
+use Rattle.relay_entries.specs.{declared.listed.Listed.Listed, Lines.{entry_value, is_ignored, lifted_entry_value}}
+use Rattle.relay_entries.specs.{Listing.{too_many_entries, note_entry}, Tables.{entry_rows, entry_shape}}
 use Rattle.value_groups.specs.declared.line.RandomLine.TheVariants as line
-use Rattle.vote_frame.specs.Across.{nothing_across, note_random, with_listed}
-use Rattle.vote_frame.specs.declared.across.Across.{Across}
-use Rattle.vote_frame.specs.declared.frame.VoteKind.{VoteKind}
-use Rattle.vote_frame.specs.declared.frame.VoteKind.TheVariants.{Version, Status, Methods, Time, Delays, KnownFlags}
-use Rattle.vote_frame.specs.declared.frame.VoteKind.TheVariants.{Versions, Protocols, Params}
-use Rattle.vote_frame.specs.declared.frame.VoteKind.TheVariants.{Rest, Source, Random, Nothing, Signature}
-use Rattle.vote_frame.specs.declared.frame.VoteKind.TheVariants.{Certificate, Entry}
-use Rattle.vote_frame.specs.declared.frame.VoteSection.{VoteSection}
-use Rattle.vote_frame.specs.declared.frame.VoteSection.TheVariants.{Preamble, Authority, Footer}
+use Rattle.vote_frame.specs.{Across.{nothing_across, note_random, with_listed}, declared.across.Across.Across}
+use Rattle.vote_frame.specs.declared.frame.VoteKind.{VoteKind, TheVariants.{Version, Status, Methods, Time, Delays}}
+use Rattle.vote_frame.specs.declared.frame.VoteKind.TheVariants.{KnownFlags, Versions, Protocols, Params, Rest, Source}
+use Rattle.vote_frame.specs.declared.frame.VoteKind.TheVariants.{Random, Nothing, Signature, Certificate, Entry}
+use Rattle.vote_frame.specs.declared.frame.VoteSection.{VoteSection, TheVariants.{Preamble, Authority, Footer}}
 use Rattle.vote_frame.specs.declared.frame.VoteSection.TheVariants.{Certificate as CertificateSection}
-use Rattle.vote_frame.specs.declared.frame.VoteSection.TheVariants.{Entry as EntrySection}
-use Rattle.vote_frame.specs.declared.frame.VoteValue.{VoteValue}
+use Rattle.vote_frame.specs.declared.frame.{VoteSection.TheVariants.Entry as EntrySection, VoteValue.VoteValue}
 use Rattle.vote_frame.specs.declared.frame.VoteValue.TheVariants as own
 
 -- the items of a section; the first one opens it

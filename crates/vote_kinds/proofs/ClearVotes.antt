@@ -1,15 +1,10 @@
 -- The tables of certificates and of votes are clear: they pass the tests.
-use Rattle.std.proofs.Common.{◌≡◌, true, [], ◌∷◌, refl}
-use Rattle.std.specs.Prelude.{IfSome}
-use Rattle.frame_terms.specs.Keywords.{same}
-use Rattle.frame_terms.specs.Order.{opener}
+use Rattle.std.{proofs.Common.{◌≡◌, true, [], ◌∷◌, refl}, specs.Prelude.IfSome}
+use Rattle.frame_terms.specs.{Keywords.same, Order.opener}
 use Rattle.authority_certs.specs.Tables.{cert_tables}
-use Rattle.vote_frame.specs.declared.frame.VoteSection.{VoteSection}
+use Rattle.vote_frame.specs.{declared.frame.VoteSection.VoteSection, Tables.vote_tables}
 use Rattle.vote_frame.specs.declared.frame.VoteSection.TheVariants as vote
-use Rattle.vote_frame.specs.Tables.{vote_tables}
-use Rattle.document_laws.specs.Tests.{IsRegarded, PassTests, is_clear}
-use Rattle.document_laws.proofs.Exact.{are_exact}
-use Rattle.document_laws.proofs.Tested.{are_clear}
+use Rattle.document_laws.{specs.Tests.{IsRegarded, PassTests, is_clear}, proofs.{Exact.are_exact, Tested.are_clear}}
 use Rattle.vote_kinds.specs.VoteKinds.{VoteKindsAreClear, VoteKindsAreExact}
 
 -- ---- certificates

@@ -1,14 +1,12 @@
 -- What an item says, and what is remembered across entries, refuses none as a line or an object is refused.
-use Rattle.std.proofs.Common.{ℕ, Bool, true, false, Result, Ok, Err, refl}
-use Rattle.std.specs.Prelude.{if◌then◌else◌}
+use Rattle.std.{proofs.Common.{ℕ, Bool, true, false, Result, Ok, Err, refl}, specs.Prelude.if◌then◌else◌}
 use Rattle.std.specs.FinSet as set
 use Rattle.frame_terms.specs.declared.fault.FrameFault.{FrameFault}
 use Rattle.frame_values.specs.Faults.{at_place}
-use Rattle.relay_entries.specs.declared.listed.Listed.{Listed}
+use Rattle.relay_entries.specs.{declared.{listed.Listed.Listed, said.EntryValue.EntryValue}, Listing.is_next}
+use Rattle.relay_entries.specs.Listing.{note_entry}
 use Rattle.relay_entries.specs.declared.said.EdOpinion.TheVariants as opinion
-use Rattle.relay_entries.specs.declared.said.EntryValue.{EntryValue}
 use Rattle.relay_entries.specs.declared.said.EntryValue.TheVariants as said
-use Rattle.relay_entries.specs.Listing.{is_next, note_entry}
 use Rattle.document_laws.specs.Known.{IsNoDoc}
 
 -- a fault at a place is a value's, and no line's or object's

@@ -1,32 +1,24 @@
 -- The tables of certificates and of votes refuse no item as a line or an object is refused.
-use Rattle.std.proofs.Common.{ℕ, Result, Ok, Err, refl, length}
-use Rattle.std.specs.Prelude.{nat_lt}
+use Rattle.std.{proofs.Common.{ℕ, Result, Ok, Err, refl, length}, specs.Prelude.nat_lt}
 use Rattle.item_terms.specs.Items.{Item}
-use Rattle.frame_terms.specs.declared.fault.FrameFault.{FrameFault}
-use Rattle.frame_terms.specs.declared.row.Limit.{Limit}
+use Rattle.frame_terms.specs.{declared.{fault.FrameFault.FrameFault, row.Limit.Limit}, Rows.limit_number}
 use Rattle.frame_terms.specs.declared.row.Limit.TheVariants as limit
-use Rattle.frame_terms.specs.Rows.{limit_number}
-use Rattle.frame_values.specs.Arguments.{arguments_of}
-use Rattle.frame_values.specs.declared.values.Value.{Value}
+use Rattle.frame_values.specs.{Arguments.arguments_of, declared.values.Value.Value, Faults.{at_place, too_many}}
+use Rattle.frame_values.specs.Faults.{unless_fault}
 use Rattle.frame_values.specs.declared.values.Value.TheVariants as value
-use Rattle.frame_values.specs.Faults.{at_place, too_many, unless_fault}
-use Rattle.value_groups.specs.declared.line.RandomLine.{RandomLine}
-use Rattle.value_groups.specs.declared.value.SharedRandom.{SharedRandom}
-use Rattle.relay_entries.specs.declared.listed.Listed.{Listed}
-use Rattle.relay_entries.specs.declared.said.EntryKind.{EntryKind}
+use Rattle.value_groups.specs.declared.{line.RandomLine.RandomLine, value.SharedRandom.SharedRandom}
+use Rattle.relay_entries.specs.{declared.{listed.Listed.Listed, said.EntryKind.EntryKind}, Listing.note_entry}
+use Rattle.relay_entries.specs.Listing.{too_many_entries}
 use Rattle.relay_entries.specs.declared.said.EntryKind.TheVariants as kind
-use Rattle.relay_entries.specs.Listing.{note_entry, too_many_entries}
 use Rattle.authority_certs.specs.Tables.{cert_value}
 use Rattle.vote_frame.specs.Across as across
 use Rattle.vote_frame.specs.declared.across.Across as vote_across
-use Rattle.vote_frame.specs.declared.frame.VoteKind.{VoteKind}
+use Rattle.vote_frame.specs.declared.frame.{VoteKind.VoteKind, VoteValue.VoteValue}
 use Rattle.vote_frame.specs.declared.frame.VoteKind.TheVariants as item
-use Rattle.vote_frame.specs.declared.frame.VoteValue.{VoteValue}
 use Rattle.vote_frame.specs.declared.frame.VoteValue.TheVariants as own
 use Rattle.vote_frame.specs.Tables as vote
 use Rattle.document_laws.specs.Known.{IsNoDoc}
-use Rattle.vote_kinds.specs.VoteKinds.{VoteKindsHaveNoDoc}
-use Rattle.vote_kinds.proofs.NoDocItems.{either_ok, entry, placed}
+use Rattle.vote_kinds.{specs.VoteKinds.VoteKindsHaveNoDoc, proofs.NoDocItems.{either_ok, entry, placed}}
 
 -- ---- limits
 

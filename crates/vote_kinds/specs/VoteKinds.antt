@@ -1,9 +1,7 @@
 -- Votes, and the certificates that stand in them.
 use Rattle.authority_certs.specs.Tables.{cert_tables}
 use Rattle.vote_frame.specs.Tables.{vote_tables}
-use Rattle.document_laws.specs.Clear.{AreClear}
-use Rattle.document_laws.specs.Documents.{AreExact}
-use Rattle.document_laws.specs.Known.{HasNoDoc}
+use Rattle.document_laws.specs.{Clear.AreClear, Documents.AreExact, Known.HasNoDoc}
 
 -- The tables of both kinds are clear.
 pub record VoteKindsAreClear : Type 0 where

@@ -1,46 +1,30 @@
 -- Rows of a vote whose items may be written, but for the limits, and have no objects.
 use Rattle.std.proofs.Common.{◌≡◌, ℕ, true, List, [], ◌∷◌, ◌++◌, Option, Some, None, refl, sym, subst}
-use Rattle.std.specs.Prelude.{All, Bool, IfSome, false, map, option_map}
-use Rattle.std.proofs.lemmas.List.{map-append}
-use Rattle.std.proofs.lemmas.List.Elements.{All-append, All-cons, All-nil}
-use Rattle.std.specs.Prelude.{decimal}
+use Rattle.std.{proofs.lemmas.List.{map-append, Elements.{All-append, All-cons, All-nil}}, specs.Prelude.{All, Bool}}
+use Rattle.std.specs.Prelude.{IfSome, false, map, option_map, decimal}
 use Rattle.dir_bytes.specs.FieldTexts.{moment_text}
 use Rattle.dirdoc_grammar.specs.Writing.{IsLineRest, NewItem}
 use Rattle.dir_values.specs.Numbers.{numbers_text}
 use Rattle.grammar_laws.specs.Written.{IsItem}
 use Rattle.frame_terms.specs.declared.keyword.Keyword.{Keyword}
 use Rattle.frame_terms.specs.declared.keyword.Keyword.TheVariants as the
-use Rattle.frame_values.specs.Items.{bare, item_if}
-use Rattle.frame_values.specs.Parts.{moment_of}
-use Rattle.frame_laws.proofs.Both.{both_hold}
-use Rattle.frame_laws.proofs.Entries.{item_of}
-use Rattle.frame_laws.proofs.RowValues.{text_entry_if}
-use Rattle.frame_laws.proofs.SaidRows.{entries_of, items_of}
+use Rattle.frame_values.specs.{Items.{bare, item_if}, Parts.moment_of}
+use Rattle.frame_laws.proofs.{Both.both_hold, Entries.item_of, RowValues.text_entry_if, SaidRows.{entries_of, items_of}}
 use Rattle.frame_laws.proofs.WordTexts.{two_words, word_of_number, words_of_numbers}
-use Rattle.group_laws.specs.LineAgain.{IsRandomInRange, delays_text}
-use Rattle.group_laws.proofs.TimeRows.{Times}
+use Rattle.group_laws.{specs.LineAgain.{IsRandomInRange, delays_text}, proofs.TimeRows.Times}
 use Rattle.group_laws.proofs.TimeRows as group
-use Rattle.list_values.specs.Params.{params_text}
-use Rattle.list_values.specs.Protocols.{protocols_text}
-use Rattle.list_values.specs.VersionLists.{versions_text}
+use Rattle.list_values.specs.{Params.params_text, Protocols.protocols_text, VersionLists.versions_text}
 use Rattle.list_values.specs.declared.named.Named.{Named}
-use Rattle.value_laws.specs.Ranges.{AreProtocolsInRange, AreVersionsInRange}
-use Rattle.value_laws.proofs.LineWords.{rest_of_words}
-use Rattle.value_laws.proofs.ParamsAgain.{params_fill}
-use Rattle.value_laws.proofs.ProtocolsAgain.{protocols_fill}
-use Rattle.value_laws.proofs.VersionsAgain.{versions_fill}
-use Rattle.value_groups.specs.Values.{random_text}
-use Rattle.value_groups.specs.declared.line.RandomLine.{RandomLine}
+use Rattle.value_laws.{specs.Ranges.{AreProtocolsInRange, AreVersionsInRange}, proofs.LineWords.rest_of_words}
+use Rattle.value_laws.proofs.{ParamsAgain.params_fill, ProtocolsAgain.protocols_fill, VersionsAgain.versions_fill}
+use Rattle.value_groups.specs.{Values.random_text, declared.line.RandomLine.RandomLine}
 use Rattle.value_groups.specs.declared.value.SharedRandom.{SharedRandom}
 use Rattle.vote_terms.specs.declared.lists.VoteLists.{VoteLists}
-use Rattle.vote_frame.specs.Across.{keyword_of}
+use Rattle.vote_frame.specs.{Across.keyword_of, declared.frame.VoteValue.VoteValue}
 use Rattle.vote_frame.specs.declared.frame.VoteKind.TheVariants as kind
-use Rattle.vote_frame.specs.declared.frame.VoteValue.{VoteValue}
 use Rattle.vote_frame.specs.declared.frame.VoteValue.TheVariants as own
-use Rattle.vote_laws.specs.Again.{AreListsInRange, AreMethods, AreVoteParams}
-use Rattle.vote_laws.proofs.MayWrite.{bare_may, moment_rest}
-use Rattle.vote_laws.proofs.VoteItems.{VoteRow}
-use Rattle.vote_laws.proofs.VoteLists.{param_rows, protocol_rows, version_rows}
+use Rattle.vote_laws.{specs.Again.{AreListsInRange, AreMethods, AreVoteParams}, proofs.MayWrite.{bare_may, moment_rest}}
+use Rattle.vote_laws.proofs.{VoteItems.VoteRow, VoteLists.{param_rows, protocol_rows, version_rows}}
 use Rattle.vote_laws.proofs.VoteRandoms.{random_fills, random_row}
 
 -- ---- texts that stand as they are

@@ -1,24 +1,19 @@
 -- The items of a vote before its certificate may be written, but for the limits, and have no objects.
-use Rattle.std.proofs.Common.{List, [], ◌∷◌, ◌++◌, refl, sym, ap, subst}
-use Rattle.std.specs.Prelude.{All, IfSome, codes, decimal}
-use Rattle.std.proofs.lemmas.List.Elements.{All-append, All-cons, All-nil}
+use Rattle.std.proofs.{Common.{List, [], ◌∷◌, ◌++◌, refl, sym, ap, subst}, lemmas.List.Elements.{All-append, All-cons}}
+use Rattle.std.{proofs.lemmas.List.Elements.All-nil, specs.Prelude.{All, IfSome, codes, decimal}}
 use Rattle.dir_bytes.specs.FieldTexts.{address_text, hex_text}
 use Rattle.dirdoc_grammar.specs.Writing.{IsLineRest, NewItem}
 use Rattle.grammar_laws.proofs.LineRests.{rest_of_argument}
 use Rattle.frame_terms.specs.declared.keyword.Keyword.TheVariants as the
 use Rattle.frame_values.specs.Items.{bare}
-use Rattle.frame_laws.proofs.Both.{both_hold}
-use Rattle.frame_laws.proofs.SaidRows.{items_of}
-use Rattle.frame_laws.proofs.WordTexts.{IsWord, two_words, word_of_address, word_of_identity, word_of_nickname}
-use Rattle.frame_laws.proofs.WordTexts.{word_of_number}
+use Rattle.frame_laws.proofs.{Both.both_hold, SaidRows.items_of, WordTexts.{IsWord, two_words, word_of_address}}
+use Rattle.frame_laws.proofs.WordTexts.{word_of_identity, word_of_nickname, word_of_number}
 use Rattle.value_laws.proofs.LineWords.{rest_of_words}
 use Rattle.vote_terms.specs.declared.facts.VoteFacts.{VoteFacts}
 use Rattle.vote_text.specs.Texts.{authority_items, preamble_items, source_text}
-use Rattle.vote_laws.specs.Again.{HasValuesInRange}
-use Rattle.vote_laws.proofs.BareRows.{AreRests, IsBare, both_bare, one_bare, rows_bare}
+use Rattle.vote_laws.{specs.Again.HasValuesInRange, proofs.BareRows.{AreRests, IsBare, both_bare, one_bare, rows_bare}}
 use Rattle.vote_laws.proofs.VoteRows.{authority, authority_bare, no_randoms, preamble, preamble_bare, preamble_rows}
-use Rattle.vote_laws.proofs.VoteRows.{preamble_texts}
-use Rattle.vote_laws.proofs.VoteSame.{authority_same, preamble_same}
+use Rattle.vote_laws.proofs.{VoteRows.preamble_texts, VoteSame.{authority_same, preamble_same}}
 use Rattle.vote_laws.proofs.WrittenSources.{six_in_a_row}
 
 -- ---- its authority

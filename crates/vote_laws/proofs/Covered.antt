@@ -1,13 +1,9 @@
 -- What is covered of a certificate, by the places that were kept of it.
-use Rattle.std.proofs.Common.{◌≡◌, ℕ, ◌≤◌, List, ap, ◌∙◌}
-use Rattle.std.specs.Prelude.{slice_range}
+use Rattle.std.{proofs.Common.{◌≡◌, ℕ, ◌≤◌, List, ap, ◌∙◌}, specs.Prelude.slice_range}
 use Rattle.sha1.specs.Sha1.{sha1}
 use Rattle.item_terms.specs.Items.{Item}
-use Rattle.authority_certs.specs.Certs.{cert_in}
-use Rattle.authority_certs.specs.declared.head.CertHead.{CertHead}
-use Rattle.vote_laws.specs.Signed.{IsOfCovered}
-use Rattle.vote_laws.proofs.Lines.{StandsFrom}
-use Rattle.vote_laws.proofs.Slices.{line, line_is, through_line}
+use Rattle.authority_certs.specs.{Certs.cert_in, declared.head.CertHead.CertHead}
+use Rattle.vote_laws.{specs.Signed.IsOfCovered, proofs.{Lines.StandsFrom, Slices.{line, line_is, through_line}}}
 
 -- it is the text from the first item through the keyword line of the last
 pub covered_is : (bytes : List ℕ) (place : ℕ) (first last : Item) (head : CertHead) → StandsFrom bytes place last

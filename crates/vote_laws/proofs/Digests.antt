@@ -1,8 +1,7 @@
 -- A SHA-1 digest has twenty bytes, a SHA-256 digest thirty-two.
 use Rattle.std.proofs.Common.{◌≡◌, ℕ, zero, suc, ◌*◌, ◌/◌, ◌<◌, List, [], ◌∷◌, length, arith, length-append}
-use Rattle.std.specs.Prelude.{All, slice_index}
-use Rattle.std.specs.Int.{byte_at, to_be_bytes, w32}
-use Rattle.std.proofs.lemmas.List.Elements.{All-append, All-cons, All-head, All-nil, All-tail}
+use Rattle.std.{proofs.lemmas.List.Elements.{All-append, All-cons, All-head, All-nil, All-tail}, specs.Prelude.All}
+use Rattle.std.specs.{Prelude.slice_index, Int.{byte_at, to_be_bytes, w32}}
 use Rattle.base64.specs.GeneralPurpose.{IsBytes}
 use Rattle.frame_values.specs.Ranges.{AreTwenty}
 use Rattle.sha1.specs.Sha1.{digest_bytes, hash_after, padded_message, sha1}

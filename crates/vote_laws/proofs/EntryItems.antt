@@ -1,52 +1,32 @@
 -- Each item of an entry that is written says what its row asks for.
-use Rattle.std.proofs.Common.{◌≡◌, ℕ, ◌<◌, Bool, true, List, Some, Result, Ok, Err, refl, ap}
-use Rattle.std.proofs.Common.{◌∙◌, arith}
+use Rattle.std.proofs.Common.{◌≡◌, ℕ, ◌<◌, Bool, true, List, Some, Result, Ok, Err, refl, ap, ◌∙◌, arith}
 use Rattle.std.specs.Prelude.{nat_lt, if◌then◌else◌}
 use Rattle.dir_values.specs.FlagSets.{set_text}
 use Rattle.dirdoc_grammar.specs.Writing.{written}
-use Rattle.frame_terms.specs.Rows.{row}
-use Rattle.frame_terms.specs.declared.fault.FrameFault.{FrameFault}
-use Rattle.frame_terms.specs.declared.fault.FrameReason.TheVariants.{TooMany}
-use Rattle.frame_terms.specs.declared.keyword.Keyword.{Keyword}
-use Rattle.frame_terms.specs.declared.keyword.Keyword.TheVariants as the
-use Rattle.frame_terms.specs.declared.row.Count.TheVariants.{Many, One, Optional}
+use Rattle.frame_terms.specs.{Rows.row, declared.fault.{FrameFault.FrameFault, FrameReason.TheVariants.TooMany}}
+use Rattle.frame_terms.specs.declared.{keyword.Keyword.Keyword, row.Count.TheVariants.{Many, One, Optional}}
 use Rattle.frame_terms.specs.declared.row.Limit.TheVariants.{Entries}
-use Rattle.frame_values.specs.Arguments.{next}
-use Rattle.frame_values.specs.Faults.{at_place, unless_fault}
-use Rattle.frame_values.specs.declared.found.Span.{Span}
+use Rattle.frame_terms.specs.declared.keyword.Keyword.TheVariants as the
+use Rattle.frame_values.specs.{Arguments.next, Faults.{at_place, unless_fault}, declared.found.Span.Span}
 use Rattle.frame_values.specs.declared.values.Value.{Value}
 use Rattle.frame_values.specs.declared.values.Value.TheVariants as value
-use Rattle.frame_laws.proofs.Entries.{Suits, item_of}
-use Rattle.frame_laws.proofs.RowValues.{own_entry, text_entry}
-use Rattle.frame_laws.proofs.WrittenItems.{start_of}
-use Rattle.relay_entries.specs.Lines.{lifted_entry_value}
-use Rattle.relay_entries.specs.Listing.{fault_at}
-use Rattle.relay_entries.specs.Texts.{bandwidths_text, ed_text}
-use Rattle.vote_frame.specs.declared.across.Across.{Across}
-use Rattle.relay_entries.specs.declared.said.Bandwidths.{Bandwidths}
-use Rattle.relay_entries.specs.declared.said.EdOpinion.{EdOpinion}
+use Rattle.frame_laws.proofs.{Entries.{Suits, item_of}, RowValues.{own_entry, text_entry}, WrittenItems.start_of}
+use Rattle.relay_entries.specs.{Lines.lifted_entry_value, Listing.fault_at, Texts.{bandwidths_text, ed_text}}
+use Rattle.relay_entries.specs.declared.said.{Bandwidths.Bandwidths, EdOpinion.EdOpinion, EntryValue.EntryValue}
+use Rattle.relay_entries.specs.declared.said.{MicroLine.MicroLine, RelayLine.RelayLine}
+use Rattle.vote_frame.specs.{declared.{across.Across.Across, frame.VoteValue.VoteValue}, Tables.{value_at, vote_tables}}
 use Rattle.relay_entries.specs.declared.said.EntryKind.TheVariants as entry
-use Rattle.relay_entries.specs.declared.said.EntryValue.{EntryValue}
 use Rattle.relay_entries.specs.declared.said.EntryValue.TheVariants as said
-use Rattle.relay_entries.specs.declared.said.MicroLine.{MicroLine}
-use Rattle.relay_entries.specs.declared.said.RelayLine.{RelayLine}
-use Rattle.group_laws.specs.EntryAgain.{micro_at, relay_at}
-use Rattle.group_laws.specs.Ranges.{AreBandwidthsInRange, IsAddressInRange, IsOpinionInRange}
-use Rattle.group_laws.proofs.WrittenAddresses.{address_again}
-use Rattle.group_laws.proofs.WrittenBandwidths.{bandwidth_again}
-use Rattle.group_laws.proofs.WrittenKeys.{key_again}
-use Rattle.group_laws.proofs.WrittenMicros.{micro_again}
-use Rattle.group_laws.proofs.WrittenRelays.{relay_again}
-use Rattle.group_laws.proofs.WrittenDelays.{flags-written}
-use Rattle.vote_terms.specs.declared.entry.EntryFacts.{EntryFacts}
-use Rattle.vote_terms.specs.declared.entry.MicroFacts.{MicroFacts}
+use Rattle.group_laws.specs.{EntryAgain.{micro_at, relay_at}, Ranges.{AreBandwidthsInRange, IsAddressInRange}}
+use Rattle.group_laws.{specs.Ranges.IsOpinionInRange, proofs.WrittenAddresses.address_again}
+use Rattle.group_laws.proofs.{WrittenBandwidths.bandwidth_again, WrittenKeys.key_again, WrittenMicros.micro_again}
+use Rattle.group_laws.proofs.{WrittenRelays.relay_again, WrittenDelays.flags-written}
+use Rattle.vote_terms.specs.declared.entry.{EntryFacts.EntryFacts, MicroFacts.MicroFacts}
 use Rattle.vote_text.specs.Entries.{line_of, micro_line}
-use Rattle.vote_frame.specs.Tables.{value_at, vote_tables}
 use Rattle.vote_frame.specs.declared.frame.VoteKind.TheVariants as kind
-use Rattle.vote_frame.specs.declared.frame.VoteValue.{VoteValue}
 use Rattle.vote_frame.specs.declared.frame.VoteValue.TheVariants as own
-use Rattle.vote_laws.specs.Again.{AreEntryFlags, IsEntryInRange, IsMicroInRange}
-use Rattle.vote_laws.proofs.VoteItems.{SuitsVote, VoteEntry, suits}
+use Rattle.vote_laws.{specs.Again.{AreEntryFlags, IsEntryInRange, IsMicroInRange}, proofs.VoteItems.SuitsVote}
+use Rattle.vote_laws.proofs.VoteItems.{VoteEntry, suits}
 
 -- what a vote says where an entry says this
 abbrev lifts : Result (Value EntryValue) ℕ → Result (Value VoteValue) ℕ

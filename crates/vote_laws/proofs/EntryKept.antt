@@ -1,48 +1,26 @@
 -- What is kept of the entries of a vote that was written, and what they say.
 use Rattle.std.proofs.Common.{◌≡◌, ℕ, true, List, [], ◌∷◌, ◌++◌, Option, refl, sym, ap, subst, ◌∙◌, append_assoc}
-use Rattle.std.proofs.Common.{append-nil, get_or}
-use Rattle.std.specs.Prelude.{All, map, if◌then◌else◌}
-use Rattle.std.specs.List.{fold}
-use Rattle.std.proofs.lemmas.Bool.{and_from}
-use Rattle.std.proofs.lemmas.List.Elements.{All-head, All-tail}
-use Rattle.std.proofs.lemmas.List.Folds.{list_all-append}
-use Rattle.dir_values.specs.Digests.{identity_below}
-use Rattle.dir_values.proofs.Orders.{AllPairs-head, AllPairs-tail}
-use Rattle.frame_terms.specs.Keywords.{same}
-use Rattle.frame_terms.specs.declared.document.Group.{Group}
+use Rattle.std.proofs.{Common.{append-nil, get_or}, lemmas.{Bool.and_from, List.Elements.{All-head, All-tail}}}
+use Rattle.std.{proofs.lemmas.List.Folds.list_all-append, specs.{Prelude.{All, map, if◌then◌else◌}, List.fold}}
+use Rattle.dir_values.{specs.Digests.identity_below, proofs.Orders.{AllPairs-head, AllPairs-tail}}
+use Rattle.frame_terms.specs.{Keywords.same, declared.document.Group.Group}
 use Rattle.frame_terms.specs.declared.keyword.Keyword.TheVariants as the
-use Rattle.frame_values.specs.Parts.{moment_of, part}
-use Rattle.frame_values.specs.declared.values.Value.{Value}
-use Rattle.frame_laws.proofs.Entries.{all_taken, taken_at}
-use Rattle.frame_laws.proofs.Following.{entries_all}
-use Rattle.frame_laws.proofs.Groups.{groups_in}
-use Rattle.frame_laws.proofs.Passing.{rows_pass}
-use Rattle.frame_laws.proofs.Places.{after_all}
-use Rattle.frame_laws.proofs.ReadRows.{Stand, both_stand, item_of_row, row_read}
-use Rattle.frame_laws.proofs.RowValues.{text_if_said}
-use Rattle.frame_laws.proofs.SaidRows.{entries_of}
-use Rattle.frame_laws.proofs.Sections.{end_of, entries_in, second_place, section_is_read, taken_in}
-use Rattle.frame_laws.proofs.StandingParts.{once, rest_part}
+use Rattle.frame_values.specs.{Parts.{moment_of, part}, declared.values.Value.Value}
+use Rattle.frame_laws.proofs.{Entries.{all_taken, taken_at}, Following.entries_all, Groups.groups_in, Passing.rows_pass}
+use Rattle.frame_laws.proofs.{Places.after_all, ReadRows.{Stand, both_stand, item_of_row, row_read}}
+use Rattle.frame_laws.proofs.{RowValues.text_if_said, SaidRows.entries_of, Sections.{end_of, entries_in, second_place}}
+use Rattle.frame_laws.proofs.{Sections.{section_is_read, taken_in}, StandingParts.{once, rest_part}}
 use Rattle.relay_entries.specs.Texts.{ed_text}
-use Rattle.vote_terms.specs.Entries.{Ascending}
-use Rattle.vote_terms.specs.declared.entry.EntryFacts.{EntryFacts}
-use Rattle.vote_frame.specs.Tables.{vote_tables}
-use Rattle.vote_frame.specs.declared.frame.VoteSection.{VoteSection}
-use Rattle.vote_frame.specs.declared.frame.VoteValue.{VoteValue}
-use Rattle.vote_entries.specs.Entries.{entry_in, micro_in}
-use Rattle.vote_entries.specs.Kept.{KeptEntry, entry_of, is_after}
-use Rattle.vote_entries.specs.Saying.{micros_in, relay_in}
-use Rattle.vote_entries.specs.declared.row.KeptMicro.{KeptMicro}
-use Rattle.vote_doc.specs.Kept.{kept_with}
-use Rattle.vote_doc.specs.declared.kept.Kept.{Kept}
-use Rattle.vote_laws.specs.Again.{IsEntryInRange}
-use Rattle.vote_laws.proofs.EntryItems.{micro_entry, relay_entry}
-use Rattle.vote_laws.proofs.EntryRows.{ed_if, entry_parts, entry_section, entry_written, front_rows, front_said}
-use Rattle.vote_laws.proofs.EntryRows.{taken_parts}
+use Rattle.vote_terms.specs.{Entries.Ascending, declared.entry.EntryFacts.EntryFacts}
+use Rattle.vote_frame.specs.{Tables.vote_tables, declared.frame.{VoteSection.VoteSection, VoteValue.VoteValue}}
+use Rattle.vote_entries.specs.{Entries.{entry_in, micro_in}, Kept.{KeptEntry, entry_of, is_after}, Saying.micros_in}
+use Rattle.vote_entries.specs.{Saying.relay_in, declared.row.KeptMicro.KeptMicro}
+use Rattle.vote_doc.specs.{Kept.kept_with, declared.kept.Kept.Kept}
+use Rattle.vote_laws.{specs.Again.IsEntryInRange, proofs.{EntryItems.{micro_entry, relay_entry}, EntryRows.ed_if}}
+use Rattle.vote_laws.proofs.EntryRows.{entry_parts, entry_section, entry_written, front_rows, front_said, taken_parts}
 use Rattle.vote_laws.proofs.EntrySays.{addresses_said, all_micros, bandwidths_said, ed_none, ed_said, entry_flags_said}
-use Rattle.vote_laws.proofs.EntrySays.{micros_in-append, quiet_none, relay_name}
-use Rattle.vote_laws.proofs.Heard.{is_quiet, is_quiet_kind, kinds_pass}
-use Rattle.vote_laws.proofs.VoteItems.{VoteEntry, VoteTaken}
+use Rattle.vote_laws.proofs.{EntrySays.{micros_in-append, quiet_none, relay_name}, Heard.{is_quiet, is_quiet_kind}}
+use Rattle.vote_laws.proofs.{Heard.kinds_pass, VoteItems.{VoteEntry, VoteTaken}}
 
 -- what was taken of a section
 -- ---- the microdescriptors of an entry

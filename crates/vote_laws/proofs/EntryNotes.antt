@@ -1,48 +1,29 @@
 -- What a vote remembers of its entries: how many there are, the last identity, and the Ed25519 keys.
 use Rattle.std.proofs.Common.{◌≡◌, ℕ, suc, ◌+◌, ◌<◌, ◌≤◌, Bool, true, false, List, [], ◌∷◌, ◌++◌, length, Option, Some}
-use Rattle.std.proofs.Common.{None, Result, Ok, Err, refl, sym, ap, subst, ◌∙◌, arith}
-use Rattle.std.specs.Prelude.{All, AllPairs, map, if◌then◌else◌}
-use Rattle.std.specs.Cmp.Lexicographic.{slice_cmp, texts_ties}
+use Rattle.std.proofs.{Common.{None, Result, Ok, Err, refl, sym, ap, subst, ◌∙◌, arith}, lemmas.Bool.or_from}
+use Rattle.std.proofs.lemmas.{Cmp.nat_list_cmp_total, List.Elements.{All-head, All-tail}, Slice.Eq.bytes_eq-Decides}
+use Rattle.std.specs.{Prelude.{All, AllPairs, map, if◌then◌else◌}, Cmp.Lexicographic.{slice_cmp, texts_ties}}
+use Rattle.std.specs.{Ordering.{eq_by_cmp, nat_cmp}, Str.bytes_eq}
 use Rattle.std.specs.FinSet as set
-use Rattle.std.specs.Ordering.{eq_by_cmp, nat_cmp}
-use Rattle.std.specs.Str.{bytes_eq}
-use Rattle.std.proofs.lemmas.Bool.{or_from}
-use Rattle.std.proofs.lemmas.Cmp.{nat_list_cmp_total}
-use Rattle.std.proofs.lemmas.List.Elements.{All-head, All-tail}
-use Rattle.std.proofs.lemmas.Slice.Eq.{bytes_eq-Decides}
-use Rattle.dir_values.specs.Digests.{identity_below}
-use Rattle.dir_values.specs.declared.digest.Fingerprint.{Fingerprint}
+use Rattle.dir_values.specs.{Digests.identity_below, declared.digest.Fingerprint.Fingerprint}
 use Rattle.dir_values.proofs.Orders.{AllPairs-head, AllPairs-tail}
-use Rattle.frame_terms.specs.declared.document.Taken.{Taken}
-use Rattle.frame_terms.specs.declared.fault.FrameFault.{FrameFault}
+use Rattle.frame_terms.specs.declared.{document.Taken.Taken, fault.FrameFault.FrameFault}
 use Rattle.frame_terms.specs.declared.fault.FrameReason.TheVariants.{DuplicateEd, Unsorted}
 use Rattle.frame_values.specs.declared.values.Value.{Value}
-use Rattle.frame_laws.proofs.Entries.{after_one, all_taken, taken_at}
-use Rattle.frame_laws.proofs.Following.{AreNext, MayFollow}
-use Rattle.frame_laws.proofs.Passing.{notes_passing, rows_pass}
-use Rattle.frame_laws.proofs.Places.{after_all}
-use Rattle.frame_laws.proofs.Remembered.{Notes, notes_both}
-use Rattle.frame_laws.proofs.SaidRows.{entries_of}
-use Rattle.frame_laws.proofs.Sections.{end_of, second_place, taken_in}
-use Rattle.relay_entries.specs.Listing.{fault_at, is_next, none_listed, with_key, with_relay}
-use Rattle.relay_entries.specs.Texts.{ed_text}
-use Rattle.relay_entries.specs.declared.listed.Listed.{Listed}
-use Rattle.relay_entries.specs.declared.said.EdOpinion.{EdOpinion}
+use Rattle.frame_laws.proofs.{Entries.{after_one, all_taken, taken_at}, Following.{AreNext, MayFollow}}
+use Rattle.frame_laws.proofs.{Passing.{notes_passing, rows_pass}, Places.after_all, Remembered.{Notes, notes_both}}
+use Rattle.frame_laws.proofs.{SaidRows.entries_of, Sections.{end_of, second_place, taken_in}}
+use Rattle.relay_entries.specs.{Listing.{fault_at, is_next, none_listed, with_key, with_relay}, Texts.ed_text}
+use Rattle.relay_entries.specs.declared.{listed.Listed.Listed, said.EdOpinion.EdOpinion}
 use Rattle.relay_entries.specs.declared.said.EdOpinion.TheVariants as opinion
-use Rattle.vote_terms.specs.Entries.{Ascending}
-use Rattle.vote_terms.specs.declared.entry.EntryFacts.{EntryFacts}
-use Rattle.vote_terms.specs.declared.entry.MicroFacts.{MicroFacts}
-use Rattle.vote_frame.specs.Across.{with_listed}
-use Rattle.vote_frame.specs.Tables.{vote_tables}
-use Rattle.vote_frame.specs.declared.across.Across.{Across}
-use Rattle.vote_frame.specs.declared.frame.VoteSection.{VoteSection}
+use Rattle.vote_terms.specs.{Entries.Ascending, declared.entry.{EntryFacts.EntryFacts, MicroFacts.MicroFacts}}
+use Rattle.vote_frame.specs.{Across.with_listed, Tables.vote_tables, declared.across.Across.Across}
+use Rattle.vote_frame.specs.declared.frame.{VoteSection.VoteSection, VoteValue.VoteValue}
 use Rattle.vote_frame.specs.declared.frame.VoteSection.TheVariants as section
-use Rattle.vote_frame.specs.declared.frame.VoteValue.{VoteValue}
-use Rattle.vote_laws.specs.Again.{AreEntriesInRange, DifferInKey, IsEntryInRange}
-use Rattle.vote_laws.proofs.EntryItems.{micro_entry, relay_entry, relay_of_entry, suits_relay}
-use Rattle.vote_laws.proofs.EntryRows.{ed_if, entry_parts, entry_section, entry_written, front_rows, front_said}
-use Rattle.vote_laws.proofs.EntryRows.{last_rows, next_follows, relay_row, taken_parts}
-use Rattle.vote_laws.proofs.Heard.{forgotten, is_quiet, is_quiet_kind, kinds_pass}
+use Rattle.vote_laws.{specs.Again.{AreEntriesInRange, DifferInKey, IsEntryInRange}, proofs.EntryItems.micro_entry}
+use Rattle.vote_laws.proofs.{EntryItems.{relay_entry, relay_of_entry, suits_relay}, EntryRows.{ed_if, entry_parts}}
+use Rattle.vote_laws.proofs.EntryRows.{entry_section, entry_written, front_rows, front_said, last_rows, next_follows}
+use Rattle.vote_laws.proofs.{EntryRows.{relay_row, taken_parts}, Heard.{forgotten, is_quiet, is_quiet_kind, kinds_pass}}
 
 -- ---- what is remembered after an entry
 

@@ -1,44 +1,29 @@
 -- An entry of a vote, row by row of its section's table.
-use Rattle.std.proofs.Common.{◌≡◌, ℕ, List, [], ◌∷◌, ◌++◌, Option, Some, None, refl, sym, ap, ◌∙◌}
-use Rattle.std.proofs.Common.{append-nil}
+use Rattle.std.proofs.Common.{◌≡◌, ℕ, List, [], ◌∷◌, ◌++◌, Option, Some, None, refl, sym, ap, ◌∙◌, append-nil}
 use Rattle.std.specs.Prelude.{IfSome, map}
 use Rattle.dir_values.specs.FlagSets.{set_text}
-use Rattle.frame_terms.specs.Keywords.{same}
-use Rattle.frame_terms.specs.Rows.{row}
-use Rattle.frame_terms.specs.declared.document.Taken.{Taken}
-use Rattle.frame_terms.specs.declared.keyword.Keyword.{Keyword}
+use Rattle.frame_terms.specs.{Keywords.same, Rows.row, declared.{document.Taken.Taken, keyword.Keyword.Keyword}}
+use Rattle.frame_terms.specs.declared.row.{Count.TheVariants.{Many, One, Optional}, Row.Row}
 use Rattle.frame_terms.specs.declared.keyword.Keyword.TheVariants as the
-use Rattle.frame_terms.specs.declared.row.Count.TheVariants.{Many, One, Optional}
-use Rattle.frame_terms.specs.declared.row.Row.{Row}
-use Rattle.frame_laws.proofs.Both.{both_hold}
-use Rattle.frame_laws.proofs.Entries.{all_taken}
-use Rattle.frame_laws.proofs.Following.{MayFollow, opener_follows, repeated_follows}
-use Rattle.frame_laws.proofs.ManyRows.{row_of_each, said_of_each}
-use Rattle.frame_laws.proofs.Places.{after_all, all_taken-append}
-use Rattle.frame_laws.proofs.RowCounts.{entries_of-append, said_none, said_once}
-use Rattle.frame_laws.proofs.RowValues.{row_if, said_any_if, text_entry}
-use Rattle.frame_laws.proofs.SaidRows.{AreSaid, IsSaid, entries_of, row_once}
-use Rattle.frame_laws.proofs.Sections.{IsWritten}
-use Rattle.relay_entries.specs.Texts.{ed_text}
-use Rattle.relay_entries.specs.declared.said.Bandwidths.{Bandwidths}
-use Rattle.relay_entries.specs.declared.said.EdOpinion.{EdOpinion}
+use Rattle.frame_laws.proofs.{Both.both_hold, Entries.all_taken, Following.{MayFollow, opener_follows}}
+use Rattle.frame_laws.proofs.{Following.repeated_follows, ManyRows.{row_of_each, said_of_each}, Places.after_all}
+use Rattle.frame_laws.proofs.{Places.all_taken-append, RowCounts.{entries_of-append, said_none, said_once}}
+use Rattle.frame_laws.proofs.{RowValues.{row_if, said_any_if, text_entry}, SaidRows.{AreSaid, IsSaid, entries_of}}
+use Rattle.frame_laws.proofs.{SaidRows.row_once, Sections.IsWritten}
+use Rattle.relay_entries.specs.{Texts.ed_text, declared.said.{Bandwidths.Bandwidths, EdOpinion.EdOpinion}}
 use Rattle.relay_entries.specs.declared.said.EntryKind.{EntryKind}
 use Rattle.relay_entries.specs.declared.said.EntryKind.TheVariants as entry
 use Rattle.group_laws.specs.Ranges.{AreBandwidthsInRange, IsAddressInRange, IsOpinionInRange}
-use Rattle.vote_terms.specs.declared.entry.EntryFacts.{EntryFacts}
-use Rattle.vote_terms.specs.declared.entry.MicroFacts.{MicroFacts}
-use Rattle.vote_frame.specs.Tables.{vote_tables}
-use Rattle.vote_frame.specs.declared.frame.VoteKind.{VoteKind}
+use Rattle.vote_terms.specs.declared.entry.{EntryFacts.EntryFacts, MicroFacts.MicroFacts}
+use Rattle.vote_frame.specs.{Tables.vote_tables, declared.frame.{VoteKind.VoteKind, VoteSection.TheVariants.Authority}}
+use Rattle.vote_frame.specs.declared.frame.{VoteSection.TheVariants.Footer, VoteValue.VoteValue}
 use Rattle.vote_frame.specs.declared.frame.VoteKind.TheVariants as kind
-use Rattle.vote_frame.specs.declared.frame.VoteSection.TheVariants.{Authority, Footer}
 use Rattle.vote_frame.specs.declared.frame.VoteSection.TheVariants as section
-use Rattle.vote_frame.specs.declared.frame.VoteValue.{VoteValue}
 use Rattle.frame_values.specs.declared.values.Value.{Value}
-use Rattle.vote_laws.specs.Again.{IsEntryInRange, IsMicroInRange}
-use Rattle.vote_laws.proofs.EntryItems.{bandwidths_entry, ed_entry, micro_entry, relay_entry, suits_address}
-use Rattle.vote_laws.proofs.EntryItems.{suits_bandwidths, suits_ed, suits_entry_flags, suits_entry_rest, suits_micro}
-use Rattle.vote_laws.proofs.VoteItems.{VoteEntry, VotePart, VoteRow}
-use Rattle.vote_laws.proofs.VoteLists.{both_said}
+use Rattle.vote_laws.{specs.Again.{IsEntryInRange, IsMicroInRange}, proofs.EntryItems.{bandwidths_entry, ed_entry}}
+use Rattle.vote_laws.proofs.EntryItems.{micro_entry, relay_entry, suits_address, suits_bandwidths, suits_ed}
+use Rattle.vote_laws.proofs.{EntryItems.{suits_entry_flags, suits_entry_rest, suits_micro}, VoteItems.VoteEntry}
+use Rattle.vote_laws.proofs.{VoteItems.{VotePart, VoteRow}, VoteLists.both_said}
 
 -- ---- rows
 

@@ -1,26 +1,19 @@
 -- The items of entries by their rows are those of their text.
-use Rattle.std.proofs.Common.{◌≡◌, ℕ, List, [], ◌∷◌, ◌++◌, Option, Some, None, refl, sym, ap, ◌∙◌}
-use Rattle.std.proofs.Common.{append_assoc, append-nil}
-use Rattle.std.specs.Prelude.{map, option_map}
-use Rattle.std.proofs.lemmas.List.{map-append}
+use Rattle.std.proofs.Common.{◌≡◌, ℕ, List, [], ◌∷◌, ◌++◌, Option, Some, None, refl, sym, ap, ◌∙◌, append_assoc}
+use Rattle.std.{proofs.{Common.append-nil, lemmas.List.map-append}, specs.Prelude.{map, option_map}}
 use Rattle.dir_values.specs.FlagSets.{set_text}
 use Rattle.dirdoc_grammar.specs.Writing.{NewItem}
 use Rattle.frame_terms.specs.declared.keyword.Keyword.{Keyword}
 use Rattle.frame_terms.specs.declared.keyword.Keyword.TheVariants as the
 use Rattle.frame_values.specs.Items.{item_if}
-use Rattle.frame_laws.proofs.Entries.{item_of}
-use Rattle.frame_laws.proofs.Following.{entries_all}
-use Rattle.frame_laws.proofs.RowValues.{items_if, text_entry, text_entry_if}
+use Rattle.frame_laws.proofs.{Entries.item_of, Following.entries_all, RowValues.{items_if, text_entry, text_entry_if}}
 use Rattle.frame_laws.proofs.Sections.{entries_in}
-use Rattle.relay_entries.specs.Texts.{bandwidths_text, ed_text}
-use Rattle.relay_entries.specs.declared.said.Bandwidths.{Bandwidths}
+use Rattle.relay_entries.specs.{Texts.{bandwidths_text, ed_text}, declared.said.Bandwidths.Bandwidths}
 use Rattle.relay_entries.specs.declared.said.EdOpinion.{EdOpinion}
-use Rattle.vote_terms.specs.declared.entry.EntryFacts.{EntryFacts}
-use Rattle.vote_terms.specs.declared.entry.MicroFacts.{MicroFacts}
+use Rattle.vote_terms.specs.declared.entry.{EntryFacts.EntryFacts, MicroFacts.MicroFacts}
 use Rattle.vote_text.specs.Entries.{entries_items, entry_items, flag_items, items_each, micro_items, relay_items}
 use Rattle.vote_frame.specs.declared.frame.VoteValue.{VoteValue}
-use Rattle.vote_laws.proofs.EntryItems.{micro_entry}
-use Rattle.vote_laws.proofs.EntryRows.{bandwidths_if, ed_if, entry_section}
+use Rattle.vote_laws.proofs.{EntryItems.micro_entry, EntryRows.{bandwidths_if, ed_if, entry_section}}
 use Rattle.vote_laws.proofs.VoteItems.{VoteEntry}
 
 -- ---- each row

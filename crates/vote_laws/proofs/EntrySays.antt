@@ -1,53 +1,34 @@
 -- What is said by an entry of a vote that was written and is read.
-use Rattle.std.proofs.Common.{◌≡◌, ℕ, ◌+◌, ◌/◌, ◌%◌, Bool, true, false, List, [], ◌∷◌, ◌++◌, Option, Some, None}
-use Rattle.std.proofs.Common.{refl, sym, ap, subst, ◌∙◌, arith}
-use Rattle.std.specs.Prelude.{All, decimal, map, if◌then◌else◌}
-use Rattle.std.specs.List.{join_with_byte}
-use Rattle.std.proofs.lemmas.List.Elements.{All-head, All-tail}
+use Rattle.std.proofs.Common.{◌≡◌, ℕ, ◌+◌, ◌/◌, ◌%◌, Bool, true, false, List, [], ◌∷◌, ◌++◌, Option, Some, None, refl}
+use Rattle.std.proofs.{Common.{sym, ap, subst, ◌∙◌, arith}, lemmas.List.Elements.{All-head, All-tail}}
+use Rattle.std.specs.{Prelude.{All, decimal, map, if◌then◌else◌}, List.join_with_byte}
 use Rattle.dir_bytes.specs.FieldTexts.{address_text, base64_text, clock_text, date_text}
 use Rattle.item_terms.specs.Words.{words_of}
 use Rattle.dir_values.specs.FlagSets.{as_set, set_text}
-use Rattle.frame_terms.specs.Keywords.{same}
-use Rattle.frame_terms.specs.Rows.{row}
-use Rattle.frame_terms.specs.declared.document.Taken.{Taken}
+use Rattle.frame_terms.specs.{Keywords.same, Rows.row, declared.{document.Taken.Taken, row.Count.TheVariants.Many}}
+use Rattle.frame_terms.specs.declared.row.Count.TheVariants.{One, Optional}
 use Rattle.frame_terms.specs.declared.keyword.Keyword.TheVariants as the
-use Rattle.frame_terms.specs.declared.row.Count.TheVariants.{Many, One, Optional}
-use Rattle.frame_values.specs.Fields.{span}
-use Rattle.frame_values.specs.Parts.{moment_of, part}
-use Rattle.frame_values.specs.Values.{item_at, text_if, text_in, text_of_value}
-use Rattle.frame_values.specs.declared.found.Span.{Span}
-use Rattle.frame_values.specs.declared.values.Value.{Value}
+use Rattle.frame_values.specs.{Fields.span, Parts.{moment_of, part}, Values.{item_at, text_if, text_in, text_of_value}}
+use Rattle.frame_values.specs.declared.{found.Span.Span, values.Value.Value}
 use Rattle.frame_values.specs.declared.values.Value.TheVariants as value
-use Rattle.frame_laws.proofs.Entries.{after_one, all_taken}
-use Rattle.frame_laws.proofs.ManyRows.{row_of_each}
-use Rattle.frame_laws.proofs.Passing.{EachPasses}
-use Rattle.frame_laws.proofs.ReadRows.{IsRead, Stand, item_of_row}
-use Rattle.frame_laws.proofs.RowValues.{text_entry, text_said}
-use Rattle.frame_laws.proofs.SaidRows.{items_at, row_once}
-use Rattle.frame_laws.proofs.StandingParts.{part_of_part, rest_part}
-use Rattle.relay_entries.specs.Fields.{methods_in}
-use Rattle.relay_entries.specs.Texts.{ed_text, methods_text, sha256_text}
-use Rattle.relay_entries.specs.declared.said.Bandwidths.{Bandwidths}
-use Rattle.relay_entries.specs.declared.said.EdOpinion.{EdOpinion}
+use Rattle.frame_laws.proofs.{Entries.{after_one, all_taken}, ManyRows.row_of_each, Passing.EachPasses, ReadRows.IsRead}
+use Rattle.frame_laws.proofs.{ReadRows.{Stand, item_of_row}, RowValues.{text_entry, text_said}, SaidRows.items_at}
+use Rattle.frame_laws.proofs.{SaidRows.row_once, StandingParts.{part_of_part, rest_part}}
+use Rattle.relay_entries.specs.{Fields.methods_in, Texts.{ed_text, methods_text, sha256_text}}
+use Rattle.relay_entries.specs.declared.said.{Bandwidths.Bandwidths, EdOpinion.EdOpinion}
 use Rattle.relay_entries.specs.declared.said.EdOpinion.TheVariants as opinion
 use Rattle.relay_entries.specs.declared.said.EntryKind.TheVariants as entry
 use Rattle.relay_entries.specs.declared.said.EntryValue.TheVariants as said
-use Rattle.group_laws.proofs.WrittenMethods.{methods_in-text}
-use Rattle.group_laws.proofs.WrittenRelays.{relay_shape}
-use Rattle.group_laws.proofs.WrittenDelays.{as_set-text}
-use Rattle.vote_terms.specs.declared.entry.EntryFacts.{EntryFacts}
-use Rattle.vote_terms.specs.declared.entry.MicroFacts.{MicroFacts}
+use Rattle.group_laws.proofs.{WrittenMethods.methods_in-text, WrittenRelays.relay_shape, WrittenDelays.as_set-text}
+use Rattle.vote_terms.specs.declared.entry.{EntryFacts.EntryFacts, MicroFacts.MicroFacts}
 use Rattle.vote_text.specs.Entries.{line_of, micro_line}
 use Rattle.vote_frame.specs.declared.frame.VoteValue.{VoteValue}
 use Rattle.vote_frame.specs.declared.frame.VoteValue.TheVariants as own
-use Rattle.vote_entries.specs.Entries.{micro_in}
-use Rattle.vote_entries.specs.Saying.{addresses_in, bandwidths_in, ed_in, micro_if, micros_in, onto_if}
-use Rattle.vote_entries.specs.declared.row.KeptMicro.{KeptMicro}
-use Rattle.vote_laws.specs.Again.{AreEntryFlags, IsMicroInRange}
-use Rattle.vote_laws.proofs.EntryItems.{micro_entry}
-use Rattle.vote_laws.proofs.EntryRows.{bandwidths_row, ed_if, entry_kind}
-use Rattle.vote_laws.proofs.Heard.{is_quiet}
-use Rattle.vote_laws.proofs.VoteItems.{VoteEntry, VoteTaken}
+use Rattle.vote_entries.specs.{Entries.micro_in, Saying.{addresses_in, bandwidths_in, ed_in, micro_if, micros_in}}
+use Rattle.vote_entries.specs.{Saying.onto_if, declared.row.KeptMicro.KeptMicro}
+use Rattle.vote_laws.{specs.Again.{AreEntryFlags, IsMicroInRange}, proofs.EntryItems.micro_entry}
+use Rattle.vote_laws.proofs.{EntryRows.{bandwidths_row, ed_if, entry_kind}, Heard.is_quiet, VoteItems.VoteEntry}
+use Rattle.vote_laws.proofs.VoteItems.{VoteTaken}
 
 -- what was taken of an entry
 -- ---- addresses

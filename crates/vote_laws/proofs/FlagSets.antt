@@ -1,11 +1,7 @@
 -- What holds of flags holds of the set that they make.
-use Rattle.std.proofs.Common.{ℕ, Bool, true, false, List, [], ◌∷◌}
-use Rattle.std.specs.Prelude.{All, if◌then◌else◌}
-use Rattle.std.specs.List.{fold}
-use Rattle.std.specs.Str.{bytes_eq}
-use Rattle.std.proofs.lemmas.List.Elements.{All-cons, All-head, All-nil, All-tail}
-use Rattle.dir_values.specs.Digests.{bytes_below}
-use Rattle.dir_values.specs.FlagSets.{as_set, with_flag}
+use Rattle.std.proofs.{Common.{ℕ, Bool, true, false, List, [], ◌∷◌}, lemmas.List.Elements.{All-cons, All-head, All-nil}}
+use Rattle.std.{proofs.lemmas.List.Elements.All-tail, specs.{Prelude.{All, if◌then◌else◌}, List.fold, Str.bytes_eq}}
+use Rattle.dir_values.specs.{Digests.bytes_below, FlagSets.{as_set, with_flag}}
 
 -- what holds of the flags and of one more holds of them together
 pub All-with_flag : (P : List ℕ → Type 0) (flags : List (List ℕ)) (flag : List ℕ) → All P flags → P flag

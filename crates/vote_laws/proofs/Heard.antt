@@ -5,18 +5,14 @@ use Rattle.frame_values.specs.declared.values.Value.{Value}
 use Rattle.frame_values.specs.declared.values.Value.TheVariants as value
 use Rattle.frame_laws.proofs.Passing.{IsForgotten, KindsPass}
 use Rattle.authority_certs.specs.declared.frame.CertKind.TheVariants as cert
-use Rattle.relay_entries.specs.Lines.{entry_value, lifted_entry_value}
-use Rattle.vote_frame.specs.declared.across.Across.{Across}
-use Rattle.relay_entries.specs.declared.said.EntryKind.{EntryKind}
-use Rattle.relay_entries.specs.declared.said.EntryKind.TheVariants as entry
+use Rattle.relay_entries.specs.{Lines.{entry_value, lifted_entry_value}, declared.said.EntryKind.EntryKind}
 use Rattle.relay_entries.specs.declared.said.EntryValue.{EntryValue}
-use Rattle.relay_entries.specs.declared.said.EntryValue.TheVariants as said
-use Rattle.row_laws.proofs.ReadSteps.{ReadAs, next_reads}
-use Rattle.row_laws.proofs.SaidByKinds.{made_of_any, says_as_read}
+use Rattle.vote_frame.specs.declared.{across.Across.Across, frame.{VoteKind.VoteKind, VoteValue.VoteValue}}
 use Rattle.vote_frame.specs.Tables.{note_value, over_limit, value_at, vote_tables}
-use Rattle.vote_frame.specs.declared.frame.VoteKind.{VoteKind}
+use Rattle.relay_entries.specs.declared.said.EntryKind.TheVariants as entry
+use Rattle.relay_entries.specs.declared.said.EntryValue.TheVariants as said
+use Rattle.row_laws.proofs.{ReadSteps.{ReadAs, next_reads}, SaidByKinds.{made_of_any, says_as_read}}
 use Rattle.vote_frame.specs.declared.frame.VoteKind.TheVariants as kind
-use Rattle.vote_frame.specs.declared.frame.VoteValue.{VoteValue}
 use Rattle.vote_frame.specs.declared.frame.VoteValue.TheVariants as own
 
 -- it says nothing of a relay, of a microdescriptor or of an Ed25519 identity

@@ -1,22 +1,15 @@
 -- An item that stands in a section has the text of its row's keyword.
-use Rattle.std.proofs.Common.{◌≡◌, ℕ, Bool, true, false, List, [], ◌∷◌, ◌++◌, get_or, Some, None, refl, sym, ap}
-use Rattle.std.proofs.Common.{◌∙◌}
-use Rattle.std.specs.Prelude.{◌≢◌, ◌||◌, nat_eq, if◌then◌else◌}
-use Rattle.std.specs.List.{find, list_any}
-use Rattle.std.specs.Cmp.Lexicographic.{same_text}
-use Rattle.std.proofs.lemmas.Bool.{eqb-true, false≢true}
+use Rattle.std.proofs.Common.{◌≡◌, ℕ, Bool, true, false, List, [], ◌∷◌, ◌++◌, Some, None, refl, sym, ap, ◌∙◌}
+use Rattle.std.{proofs.lemmas.Bool.false≢true, specs.{Prelude.{◌≢◌, ◌||◌, nat_eq, if◌then◌else◌}, List.find}}
+use Rattle.std.specs.{List.list_any, Cmp.Lexicographic.same_text}
 use lib.Pointwise.{pointwise}
 use Rattle.item_terms.specs.Items.{Item}
-use Rattle.frame_terms.specs.declared.document.Taken.{Taken}
-use Rattle.frame_terms.specs.declared.keyword.Keyword.{Keyword}
-use Rattle.frame_terms.specs.declared.keyword.Keyword.TheVariants as the
-use Rattle.frame_terms.specs.Keywords.{known_keywords as every, number_of, same, text_of, word_of}
-use Rattle.frame_terms.specs.Sections.{row_of, stands}
+use Rattle.frame_terms.specs.declared.{document.Taken.Taken, keyword.Keyword.Keyword}
+use Rattle.frame_terms.specs.{Keywords.{known_keywords as every, same, text_of, word_of}, Sections.{row_of, stands}}
 use Rattle.frame_terms.specs.Tables.{Tables}
 use Rattle.frame_values.specs.Values.{item_at}
-use Rattle.frame_laws.proofs.KnownWords.{known, same-refl, same-sym}
-use Rattle.document_laws.specs.Items.{IsItemOf}
-use Rattle.document_laws.proofs.Openers.{row_of-same}
+use Rattle.frame_laws.proofs.KnownWords.{known, one_keyword, same-refl, same-sym}
+use Rattle.document_laws.{specs.Items.IsItemOf, proofs.Openers.row_of-same}
 
 -- ---- the first of a list that passes a test
 
@@ -61,17 +54,6 @@ text_of_word : (text : List ℕ) (keyword : Keyword) → word_of text ≡ Some k
 unfolding word_of
 text_of_word text keyword e =
     same_text text (text_of keyword) (sym (find_passes (λ word. pointwise nat_eq text (text_of word)) every keyword e))
-
--- each keyword stands at its number
-at_number : (keyword : Keyword) → get_or every (number_of keyword) the.R ≡ keyword
-at_number the.R = refl
-at_number _ = refl
-
--- keywords that are the same are one
-pub one_keyword : (a b : Keyword) → same a b ≡ true → a ≡ b
-unfolding same
-one_keyword a b is =
-    sym (at_number a) ∙ ap (λ (n : ℕ). get_or every n the.R) (eqb-true (number_of a) (number_of b) is) ∙ at_number b
 
 -- keywords with one text are one
 one_text : (a b : Keyword) → text_of a ≡ text_of b → Some a ≡ Some b

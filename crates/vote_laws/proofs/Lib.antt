@@ -6,12 +6,9 @@ pub mod FlagSets
 pub mod Digests
 pub mod KeywordTexts
 pub mod Covered
+pub mod PartItems
 pub mod Certificates
-pub mod Pushes
-pub mod VoteParts
 pub mod VoteSections
-pub mod VoteSteps
-pub mod VoteWalk
 pub mod Votes
 pub mod SignedVotes
 pub mod Values

@@ -1,17 +1,13 @@
 -- The items of a document stand one behind the other, each with its keyword line.
 use Rattle.std.proofs.Common.{◌≡◌, ℕ, ◌+◌, ◌≤◌, Bool, true, false, cond, eqb, List, [], ◌∷◌, ◌++◌, length, drop, Option}
-use Rattle.std.proofs.Common.{Some, None, refl, sym, ap, subst, ◌∙◌, arith, append_assoc}
-use Rattle.std.specs.Prelude.{◌==◌, not}
-use Rattle.std.specs.List.{list_all}
-use Rattle.std.proofs.lemmas.Bool.{and_from, eqb-true}
-use Rattle.std.proofs.lemmas.List.{append-nil, drop-drop, drop_at, length-append}
-use Rattle.item_terms.specs.declared.fault.DocFault.{DocFault}
-use Rattle.item_terms.specs.Items.{Item, items_from}
-use Rattle.item_terms.specs.Lines.{Line, lines, onto, size}
+use Rattle.std.proofs.{Common.{Some, None, refl, sym, ap, subst, ◌∙◌, arith, append_assoc}, lemmas.Bool.and_from}
+use Rattle.std.{proofs.lemmas.{Bool.eqb-true, List.{append-nil, drop-drop, drop_at, length-append}}, specs.Prelude.◌==◌}
+use Rattle.std.specs.{Prelude.not, List.list_all}
+use Rattle.item_terms.specs.{declared.fault.DocFault.DocFault, Items.{Item, items_from}, Lines.{Line, lines, onto}}
+use Rattle.item_terms.specs.Lines.{size}
 use Rattle.item_terms.specs.Words as word
-use Rattle.grammar_laws.specs.Blocks.{AreLinesOfItem, AreLinesOfItems, sizes}
-use Rattle.grammar_laws.proofs.BlockFronts.{fault_is_there, items_are_there}
-use Rattle.grammar_laws.proofs.SoundLines.{has_end}
+use Rattle.grammar_laws.{specs.Blocks.{AreLinesOfItem, AreLinesOfItems, sizes}, proofs.BlockFronts.fault_is_there}
+use Rattle.grammar_laws.proofs.{BlockFronts.items_are_there, SoundLines.has_end}
 
 -- ---- the lines of a text, joined, are the text
 

@@ -1,36 +1,22 @@
 -- A vote that was made is read again.
 use Rattle.std.proofs.Common.{◌≡◌, ℕ, ◌+◌, ◌-◌, ◌^◌, ◌≤◌, true, List, [], ◌∷◌, ◌++◌, length, refl, sym, ap, ◌∙◌}
-use Rattle.std.proofs.Common.{append-nil, arith}
-use Rattle.std.specs.Prelude.{codes, min}
-use Rattle.std.proofs.lemmas.List.{length-append}
+use Rattle.std.{proofs.{Common.{append-nil, arith}, lemmas.List.length-append}, specs.Prelude.{codes, min}}
 use Rattle.item_terms.specs.Words.{first_is, is_letter_or_digit}
 use Rattle.frame_terms.specs.Keywords.{same}
-use Rattle.frame_laws.proofs.LastRows.{last_item}
-use Rattle.frame_laws.proofs.Places.{after_all-append}
-use Rattle.frame_laws.proofs.Sections.{end_of, entries_in}
+use Rattle.frame_laws.proofs.{LastRows.last_item, Places.after_all-append, Sections.{end_of, entries_in}}
 use Rattle.frame_laws.proofs.WrittenRows.{ends_behind}
-use Rattle.authority_certs.specs.Certs.{cert_in, whole_part}
-use Rattle.authority_certs.specs.Heads.{head_of}
+use Rattle.authority_certs.specs.{Certs.{cert_in, whole_part}, Heads.head_of}
 use Rattle.vote_terms.specs.declared.facts.VoteFacts.{VoteFacts}
 use Rattle.vote_text.specs.Made.{made_signed, made_text, signature_rest}
-use Rattle.vote_doc.specs.Heads.{signed_to}
-use Rattle.vote_doc.specs.declared.kept.Kept.{Kept}
-use Rattle.vote_frame.specs.Tables.{vote_tables}
-use Rattle.vote_frame.specs.declared.frame.VoteValue.{VoteValue}
-use Rattle.vote_laws.proofs.VoteItems.{VoteTaken, signature_entry, signature_row}
-use Rattle.vote_laws.proofs.VotePlaces.{end_from, footer_from}
-use Rattle.vote_laws.proofs.VoteRows.{footer}
-use Rattle.vote_laws.proofs.VoteSame.{in_list}
-use Rattle.vote_laws.proofs.VoteSigned.{from_first}
-use Rattle.certificate_laws.specs.Within.{SayTheSame}
-use Rattle.certificate_laws.proofs.InVotes.{given_stand}
-use Rattle.certificate_laws.proofs.MovedParts.{certs_say}
-use Rattle.vote_laws.specs.Made.{IsMadeInRange, IsMadeVote, MadeVotesAreRead}
-use Rattle.vote_laws.proofs.MadeKept.{made_place}
+use Rattle.vote_doc.specs.{Heads.signed_to, declared.kept.Kept.Kept}
+use Rattle.vote_frame.specs.{Tables.vote_tables, declared.frame.VoteValue.VoteValue}
+use Rattle.vote_laws.proofs.{VoteItems.{VoteTaken, signature_entry, signature_row}, VotePlaces.{end_from, footer_from}}
+use Rattle.vote_laws.proofs.{VoteRows.footer, VoteSame.in_list, VoteSigned.from_first, MadeKept.made_place}
 use Rattle.vote_laws.proofs.MadeRead.{InVote, ends_at, given_first, given_kept, given_taken, made_read, made_vote}
-use Rattle.vote_laws.proofs.MadeSays.{made_says}
-use Rattle.vote_laws.proofs.MadeTexts.{before_text, behind_text, signed_parts, text_parts, unsigned_behind}
-use Rattle.vote_laws.proofs.VoteWritten.{footer_ended}
+use Rattle.vote_laws.proofs.{MadeSays.made_says, MadeTexts.{before_text, behind_text, signed_parts, text_parts}}
+use Rattle.vote_laws.{proofs.{MadeTexts.unsigned_behind, VoteWritten.footer_ended}, specs.Made.IsMadeInRange}
+use Rattle.vote_laws.specs.Made.{IsMadeVote, MadeVotesAreRead}
+use Rattle.certificate_laws.{specs.Within.SayTheSame, proofs.{InVotes.given_stand, MovedParts.certs_say}}
 
 module _ (facts : VoteFacts) (bytes : List ℕ) (stand : InVote facts bytes)
     (first : first_is is_letter_or_digit bytes ≡ true) (are : IsMadeInRange facts bytes) where

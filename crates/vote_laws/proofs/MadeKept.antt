@@ -1,32 +1,18 @@
 -- Where the sections of a vote stand that was made, what is taken of them, and what is kept.
 use Rattle.std.proofs.Common.{◌≡◌, ℕ, ◌+◌, Bool, false, List, [], ◌∷◌, ◌++◌, length, Option, Some, None, refl, ap, ◌∙◌}
-use Rattle.std.specs.Prelude.{not, ◌&&◌, ◌||◌, if◌then◌else◌}
-use Rattle.std.specs.List.{find, fold}
-use Rattle.std.specs.Option.{option_or}
-use Rattle.frame_terms.specs.Documents.{group}
-use Rattle.frame_terms.specs.Keywords.{same}
-use Rattle.frame_terms.specs.Rows.{is_one}
-use Rattle.frame_terms.specs.Sections.{keyword_if, lacking_keyword, stands}
-use Rattle.frame_terms.specs.declared.keyword.Keyword.{Keyword}
+use Rattle.std.specs.{Prelude.{not, ◌&&◌, ◌||◌, if◌then◌else◌}, List.{find, fold}, Option.option_or}
+use Rattle.frame_terms.specs.{Documents.group, Keywords.same, Rows.is_one, Sections.{keyword_if, lacking_keyword}}
+use Rattle.frame_terms.specs.{Sections.stands, declared.{keyword.Keyword.Keyword, row.Row.Row}}
 use Rattle.frame_terms.specs.declared.keyword.Keyword.TheVariants as the
-use Rattle.frame_terms.specs.declared.row.Row.{Row}
 use Rattle.frame_values.specs.Values.{item_at, text_if}
-use Rattle.frame_laws.proofs.Groups.{groups_in}
-use Rattle.frame_laws.proofs.Sections.{taken_in}
+use Rattle.frame_laws.proofs.{Groups.groups_in, Sections.taken_in}
 use Rattle.vote_terms.specs.declared.facts.VoteFacts.{VoteFacts}
 use Rattle.vote_doc.specs.Heads.{no_head, with_authority, with_certificate, with_footer, with_preamble}
-use Rattle.vote_doc.specs.Kept.{none_kept}
-use Rattle.vote_doc.specs.Saying.{random_in, source_in}
-use Rattle.vote_doc.specs.declared.head.Head.{Head}
-use Rattle.vote_doc.specs.declared.kept.Kept.{Kept}
+use Rattle.vote_doc.specs.{Kept.none_kept, Saying.{random_in, source_in}, declared.{head.Head.Head, kept.Kept.Kept}}
 use Rattle.vote_frame.specs.declared.frame.VoteSection.TheVariants.{Authority, Certificate, Footer, Preamble}
-use Rattle.vote_laws.specs.Again.{AreEntriesInRange}
-use Rattle.vote_laws.proofs.EntryKept.{entries_kept, keeps, kept_list}
-use Rattle.vote_laws.proofs.VoteItems.{VoteTaken}
-use Rattle.vote_laws.proofs.VotePlaces.{VoteDocument, authority_place, end_from, footer_taken, in_preamble}
-use Rattle.vote_laws.proofs.VotePlaces.{sections_of}
-use Rattle.vote_laws.proofs.VoteRows.{authority}
-use Rattle.vote_laws.proofs.MadeTexts.{before_text}
+use Rattle.vote_laws.{specs.Again.AreEntriesInRange, proofs.EntryKept.{entries_kept, keeps, kept_list}}
+use Rattle.vote_laws.proofs.{VoteItems.VoteTaken, VotePlaces.{VoteDocument, authority_place, end_from, footer_taken}}
+use Rattle.vote_laws.proofs.{VotePlaces.{in_preamble, sections_of}, VoteRows.authority, MadeTexts.before_text}
 
 -- ---- lists with one more item
 

@@ -1,55 +1,35 @@
 -- The text of a vote that was made is read.
 use Rattle.std.proofs.Common.{◌≡◌, ℕ, ◌+◌, ◌≤◌, true, false, List, [], ◌∷◌, ◌++◌, length, take, Option, None, Result}
-use Rattle.std.proofs.Common.{Ok, refl, sym, ap, subst, ◌∙◌, arith, append_assoc}
-use Rattle.std.specs.Prelude.{map, ◌&&◌}
-use Rattle.std.proofs.lemmas.Bool.{and_right}
-use Rattle.std.proofs.Math.Seq.{drop-append_seam, take-append_seam}
-use Rattle.std.proofs.lemmas.List.{length-append}
-use Rattle.item_terms.specs.Items.{Contents, Item, contents, nothing}
-use Rattle.item_terms.specs.Words.{begins_dash, first_is, is_letter_or_digit}
-use Rattle.item_terms.specs.declared.fault.DocFault.{DocFault}
+use Rattle.std.proofs.{Common.{Ok, refl, sym, ap, subst, ◌∙◌, arith, append_assoc}, lemmas.Bool.and_right}
+use Rattle.std.{proofs.{lemmas.List.length-append, Math.Seq.{drop-append_seam, take-append_seam}}, specs.Prelude.map}
+use Rattle.std.specs.Prelude.{◌&&◌}
+use Rattle.item_terms.specs.{Items.{Contents, Item, contents, nothing}, Words.{begins_dash, first_is}}
+use Rattle.item_terms.specs.{Words.is_letter_or_digit, declared.fault.DocFault.DocFault}
 use Rattle.dirdoc_grammar.specs.Writing.{AreWritable, NewItem, all_written, in_front, is_open}
-use Rattle.grammar_laws.proofs.ItemsAgain.{items_again}
-use Rattle.grammar_laws.proofs.WrittenBytes.{differs}
-use Rattle.frame_terms.specs.Documents.{document_of, group, onto, read_items, start}
-use Rattle.frame_terms.specs.Sections.{lacking_keyword, stands}
-use Rattle.frame_terms.specs.declared.fault.ReadRefusal.{ReadRefusal}
+use Rattle.grammar_laws.{proofs.{ItemsAgain.items_again, WrittenBytes.differs}, specs.Moved.moved_item}
+use Rattle.frame_terms.specs.{Documents.{document_of, group, onto, read_items, start}, Sections.lacking_keyword}
+use Rattle.frame_terms.specs.{Sections.stands, declared.fault.ReadRefusal.ReadRefusal}
 use Rattle.frame_terms.specs.declared.keyword.Keyword.TheVariants as the
-use Rattle.frame_laws.proofs.Entries.{item_of, taken_at}
-use Rattle.frame_laws.proofs.Following.{first_read, section_read}
-use Rattle.frame_laws.proofs.Passing.{notes_passing}
-use Rattle.frame_laws.proofs.Places.{after_all-append, both_written}
-use Rattle.frame_laws.proofs.Sections.{entries_in, others_in, section_before_last, section_whole}
-use Rattle.frame_laws.proofs.WrittenRows.{ends_behind, is_closed}
-use Rattle.certificate_laws.proofs.CertRows.{certificate_version}
-use Rattle.vote_terms.specs.Votes.{ReadVote, max_vote}
-use Rattle.vote_terms.specs.declared.facts.VoteFacts.{VoteFacts}
+use Rattle.frame_laws.proofs.{Entries.{item_of, taken_at}, Following.{first_read, section_read}, Passing.notes_passing}
+use Rattle.frame_laws.proofs.{Places.{after_all-append, both_written}, Sections.{entries_in, others_in}}
+use Rattle.frame_laws.proofs.{Sections.{section_before_last, section_whole}, WrittenRows.{ends_behind, is_closed}}
+use Rattle.certificate_laws.{proofs.CertRows.certificate_version, specs.{Inside.StandsInside, Lifted.moved_taken}}
+use Rattle.vote_terms.specs.{Votes.{ReadVote, max_vote}, declared.facts.VoteFacts.VoteFacts}
 use Rattle.vote_text.specs.Made.{made_text}
 use Rattle.blank_lines.specs.Behind as places
-use Rattle.vote_doc.specs.Facts.{vote_in}
-use Rattle.vote_doc.specs.Reading.{vote_from, vote_of}
-use Rattle.vote_doc.specs.declared.kept.Kept.{Kept}
-use Rattle.vote_frame.specs.Across.{nothing_across}
-use Rattle.vote_frame.specs.Tables.{vote_tables}
+use Rattle.vote_doc.specs.{Facts.vote_in, Reading.{vote_from, vote_of}, declared.kept.Kept.Kept}
+use Rattle.vote_frame.specs.{Across.nothing_across, Tables.vote_tables}
 use Rattle.vote_frame.specs.declared.frame.VoteSection.TheVariants.{Authority, Certificate, Preamble}
-use Rattle.vote_laws.specs.Again.{HasValuesInRange}
-use Rattle.vote_laws.proofs.Heard.{forgotten, is_quiet}
+use Rattle.vote_laws.{specs.{Again.HasValuesInRange, Made.IsMadeInRange}, proofs.Heard.{forgotten, is_quiet}}
 use Rattle.vote_laws.proofs.VoteItems.{VoteEntry, VoteTaken, signature_entry, suits_source, suits_version}
-use Rattle.vote_laws.proofs.VotePlaces.{VoteDocument, authority_place, certificate_place, end_from}
-use Rattle.vote_laws.proofs.VotePlaces.{in_preamble}
+use Rattle.vote_laws.proofs.VotePlaces.{VoteDocument, authority_place, certificate_place, end_from, in_preamble}
 use Rattle.vote_laws.proofs.VoteRead.{answer, authority_notes, authority_whole, has_object, preamble_quiet, read_as}
-use Rattle.vote_laws.proofs.VoteRows.{authority, certificate_row, footer, preamble}
-use Rattle.vote_laws.proofs.VoteSame.{footer_entries, in_list}
-use Rattle.vote_laws.proofs.VoteTail.{remembered, tail_read}
-use Rattle.grammar_laws.specs.Moved.{moved_item}
-use Rattle.certificate_laws.specs.Inside.{StandsInside}
-use Rattle.certificate_laws.specs.Lifted.{moved_taken}
-use Rattle.vote_laws.specs.Made.{IsMadeInRange}
-use Rattle.vote_laws.proofs.MadeKept.{in_authority_alone, lacking_same, made_all_kept, made_document, made_kept}
-use Rattle.vote_laws.proofs.MadeKept.{made_place}
+use Rattle.vote_laws.proofs.{VoteRows.{authority, certificate_row, footer, preamble}, VoteSame.footer_entries}
+use Rattle.vote_laws.proofs.{VoteSame.in_list, VoteTail.{remembered, tail_read}, MadeKept.in_authority_alone}
+use Rattle.vote_laws.proofs.MadeKept.{lacking_same, made_all_kept, made_document, made_kept, made_place}
 use Rattle.vote_laws.proofs.MadeTexts.{before_entries, before_same, before_text, behind_entries, behind_same}
-use Rattle.vote_laws.proofs.MadeTexts.{behind_text, text_parts, writable_at}
-use Rattle.vote_laws.proofs.VoteWritten.{authority_follows, authority_written, preamble_first, preamble_written}
+use Rattle.vote_laws.proofs.{MadeTexts.{behind_text, text_parts, writable_at}, VoteWritten.authority_follows}
+use Rattle.vote_laws.proofs.VoteWritten.{authority_written, preamble_first, preamble_written}
 
 -- the bytes of a certificate stand in a vote
 abbrev pub InVote : VoteFacts → List ℕ → Type 0

@@ -1,30 +1,22 @@
 -- What is kept of a vote that was made says what it says.
-use Rattle.std.proofs.Common.{◌≡◌, ℕ, ◌+◌, true, List, [], ◌∷◌, ◌++◌, length, refl, sym, ap, subst, ◌∙◌}
-use Rattle.std.proofs.Common.{append_assoc, append-nil}
-use Rattle.std.proofs.lemmas.List.{length-append}
+use Rattle.std.proofs.Common.{◌≡◌, ℕ, ◌+◌, true, List, [], ◌∷◌, ◌++◌, length, refl, sym, ap, subst, ◌∙◌, append_assoc}
+use Rattle.std.proofs.{Common.append-nil, lemmas.List.length-append}
 use Rattle.item_terms.specs.Words.{first_is, is_letter_or_digit}
 use Rattle.frame_terms.specs.Keywords.{same}
-use Rattle.frame_laws.proofs.LastRows.{section_to_is_read}
-use Rattle.frame_laws.proofs.ReadRows.{Stand, both_stand}
-use Rattle.frame_laws.proofs.Sections.{entries_in, section_is_read}
-use Rattle.frame_laws.proofs.WrittenRows.{stand_behind, stand_written}
-use Rattle.authority_certs.specs.Certs.{cert_in}
-use Rattle.authority_certs.specs.Heads.{head_of}
-use Rattle.vote_terms.specs.declared.facts.VoteFacts.{VoteFacts}
+use Rattle.frame_laws.proofs.{LastRows.section_to_is_read, ReadRows.{Stand, both_stand}, Sections.entries_in}
+use Rattle.frame_laws.proofs.{Sections.section_is_read, WrittenRows.{stand_behind, stand_written}}
+use Rattle.authority_certs.specs.{Certs.cert_in, Heads.head_of}
+use Rattle.vote_terms.specs.{declared.facts.VoteFacts.VoteFacts, Votes.max_vote}
 use Rattle.vote_text.specs.Made.{made_text}
-use Rattle.vote_terms.specs.Votes.{max_vote}
 use Rattle.vote_frame.specs.Tables.{vote_tables}
-use Rattle.vote_laws.proofs.EntryKept.{entries_say, kept_list}
-use Rattle.vote_laws.proofs.VoteRows.{authority, certificate_row, facts_said, footer, preamble}
-use Rattle.vote_laws.proofs.VoteItems.{signature_entry, signature_row}
+use Rattle.vote_laws.proofs.{EntryKept.{entries_say, kept_list}, VoteRows.{authority, certificate_row, facts_said}}
+use Rattle.vote_laws.proofs.{VoteRows.{footer, preamble}, VoteItems.{signature_entry, signature_row}}
 use Rattle.vote_laws.proofs.VotePlaces.{authority_place, footer_from, footer_taken, in_preamble}
-use Rattle.vote_laws.proofs.VoteSame.{footer_entries, in_list}
-use Rattle.vote_laws.specs.Made.{IsMadeInRange}
-use Rattle.vote_laws.proofs.MadeKept.{in_authority_alone, made_place}
+use Rattle.vote_laws.proofs.{VoteSame.{footer_entries, in_list}, MadeKept.{in_authority_alone, made_place}}
 use Rattle.vote_laws.proofs.MadeRead.{InVote, before_closed, before_may, behind_closed, behind_may, given_first}
-use Rattle.vote_laws.proofs.MadeRead.{given_taken, made_vote}
-use Rattle.vote_laws.proofs.MadeTexts.{before_entries, before_text, behind_entries, behind_text, text_parts}
-use Rattle.vote_laws.proofs.VoteWritten.{authority_written, footer_ended, preamble_written}
+use Rattle.vote_laws.proofs.{MadeRead.{given_taken, made_vote}, MadeTexts.{before_entries, before_text, behind_entries}}
+use Rattle.vote_laws.proofs.{MadeTexts.{behind_text, text_parts}, VoteWritten.{authority_written, footer_ended}}
+use Rattle.vote_laws.{proofs.VoteWritten.preamble_written, specs.Made.IsMadeInRange}
 
 module _ (facts : VoteFacts) (bytes : List ℕ) (first : first_is is_letter_or_digit bytes ≡ true)
     (are : IsMadeInRange facts bytes) where

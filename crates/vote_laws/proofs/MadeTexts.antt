@@ -1,25 +1,17 @@
 -- The text of a vote that was made: the items before its certificate, the given bytes, and the items behind.
 use Rattle.std.proofs.Common.{◌≡◌, ℕ, ◌+◌, ◌≤◌, List, [], ◌∷◌, ◌++◌, length, refl, sym, ap, ◌∙◌, append_assoc}
-use Rattle.std.proofs.Common.{append-nil}
-use Rattle.std.proofs.Common.{arith}
-use Rattle.std.specs.Prelude.{codes, map}
-use Rattle.std.proofs.lemmas.List.{length-append, map-append}
+use Rattle.std.{proofs.{Common.{append-nil, arith}, lemmas.List.{length-append, map-append}}, specs.Prelude.codes}
+use Rattle.std.specs.Prelude.{map}
 use Rattle.dirdoc_grammar.specs.Writing.{AreWritable, NewItem, item_text, items_text}
 use Rattle.frame_terms.specs.declared.keyword.Keyword.TheVariants as the
-use Rattle.frame_values.specs.Items.{bare}
-use Rattle.frame_values.proofs.ItemsTexts.{sections}
-use Rattle.frame_laws.proofs.Entries.{item_of}
-use Rattle.frame_laws.proofs.Sections.{entries_in}
-use Rattle.frame_laws.proofs.WrittenRows.{text_of_entries}
+use Rattle.frame_values.{specs.Items.bare, proofs.ItemsTexts.sections}
+use Rattle.frame_laws.proofs.{Entries.item_of, Sections.entries_in, WrittenRows.text_of_entries}
 use Rattle.vote_terms.specs.declared.facts.VoteFacts.{VoteFacts}
-use Rattle.vote_text.specs.Entries.{entries_items}
-use Rattle.vote_text.specs.Made.{made_signed, made_text, signature_rest}
-use Rattle.vote_text.specs.Texts.{authority_items, footer_items, preamble_items}
-use Rattle.vote_laws.proofs.EntrySame.{entries_same}
-use Rattle.vote_laws.proofs.VoteItems.{VoteEntry, signature_entry}
-use Rattle.vote_laws.proofs.VoteRows.{authority, footer, preamble}
-use Rattle.vote_laws.proofs.VoteSame.{authority_same, footer_entries, in_list, preamble_same}
-use Rattle.vote_laws.proofs.VoteSigned.{signature_text}
+use Rattle.vote_text.specs.{Entries.entries_items, Made.{made_signed, made_text, signature_rest}, Texts.authority_items}
+use Rattle.vote_text.specs.Texts.{footer_items, preamble_items}
+use Rattle.vote_laws.proofs.{EntrySame.entries_same, VoteItems.{VoteEntry, signature_entry}, VoteRows.authority}
+use Rattle.vote_laws.proofs.{VoteRows.{footer, preamble}, VoteSame.{authority_same, footer_entries, in_list}}
+use Rattle.vote_laws.proofs.{VoteSame.preamble_same, VoteSigned.signature_text}
 
 -- ---- items that may be written may be so elsewhere
 

@@ -1,20 +1,15 @@
 -- Items that may be written, but for the limits.
 use Rattle.std.proofs.Common.{◌≡◌, ℕ, ◌+◌, ◌/◌, ◌%◌, ◌≤◌, true, List, [], ◌∷◌, length, Option, Some, None, refl}
-use Rattle.std.specs.Prelude.{All, IfSome}
+use Rattle.std.{proofs.lemmas.List.Elements.{All-cons, All-head, All-nil, All-tail}, specs.Prelude.{All, IfSome}}
 use Rattle.std.specs.List.{list_all}
-use Rattle.std.proofs.lemmas.List.Elements.{All-cons, All-head, All-nil, All-tail}
 use Rattle.base64.specs.GeneralPurpose.{IsBytes}
 use Rattle.dir_bytes.specs.FieldTexts.{clock_text, date_text, moment_text}
-use Rattle.item_terms.specs.Words.{are_words, first_is, is_letter_or_digit, is_word_byte}
-use Rattle.item_terms.specs.Faults.{max_object}
-use Rattle.dirdoc_grammar.specs.Bodies.{object_text}
-use Rattle.dirdoc_grammar.specs.Writing.{AreWritable, IsLineRest, IsWritableObject, NewItem, NewObject, item_text}
+use Rattle.item_terms.specs.{Words.{are_words, first_is, is_letter_or_digit, is_word_byte}, Faults.max_object}
+use Rattle.dirdoc_grammar.specs.{Bodies.object_text, Writing.{AreWritable, IsLineRest, IsWritableObject, NewItem}}
+use Rattle.dirdoc_grammar.specs.Writing.{NewObject, item_text}
 use Rattle.grammar_laws.specs.Written.{AreWithinLimits, IsItem, IsObject}
-use Rattle.frame_terms.specs.Keywords.{text_of}
-use Rattle.frame_terms.specs.declared.keyword.Keyword.{Keyword}
-use Rattle.frame_terms.specs.declared.keyword.Keyword.TheVariants.{NetworkStatusVersion}
-use Rattle.frame_values.specs.Items.{bare, item_if, moment_item, with_object}
-use Rattle.frame_values.specs.Parts.{moment_of}
+use Rattle.frame_terms.specs.{Keywords.text_of, declared.keyword.Keyword.{Keyword, TheVariants.NetworkStatusVersion}}
+use Rattle.frame_values.specs.{Items.{bare, item_if, moment_item, with_object}, Parts.moment_of}
 use Rattle.frame_laws.proofs.WordTexts.{two_words, word_of_clock, word_of_date}
 use Rattle.value_laws.proofs.LineWords.{rest_of_words}
 

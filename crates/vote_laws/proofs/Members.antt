@@ -1,9 +1,7 @@
 -- What holds of the members of lists holds of parts of them, of those that pass and of what is made of them.
 use Rattle.std.proofs.Common.{◌≡◌, ◌≤◌, Bool, true, false, List, [], ◌∷◌, ◌++◌, length, map, filter, arith}
-use Rattle.std.specs.Prelude.{All, AllPairs, if◌then◌else◌}
-use Rattle.std.specs.List.{list_any}
-use Rattle.std.proofs.lemmas.Bool.{or_parts}
-use Rattle.std.proofs.lemmas.List.Elements.{All-cons, All-head, All-map, All-nil, All-tail}
+use Rattle.std.proofs.lemmas.{Bool.or_parts, List.Elements.{All-cons, All-head, All-map, All-nil, All-tail}}
+use Rattle.std.specs.{Prelude.{All, AllPairs, if◌then◌else◌}, List.list_any}
 use Rattle.dir_values.proofs.Orders.{AllPairs-cons, AllPairs-head, AllPairs-nil, AllPairs-tail}
 
 -- the members in front, and those behind them

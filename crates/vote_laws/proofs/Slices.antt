@@ -1,14 +1,11 @@
 -- Texts between places of the bytes, and the keyword lines of items one behind the other.
 use Rattle.std.proofs.Common.{◌≡◌, ℕ, ◌+◌, ◌-◌, ◌≤◌, List, [], ◌∷◌, ◌++◌, length, take, drop, Some, refl, sym, ap, ◌∙◌}
-use Rattle.std.proofs.Common.{arith, append_assoc}
-use Rattle.std.specs.Prelude.{slice_range}
-use Rattle.std.specs.List.{slice_get}
-use Rattle.std.proofs.lemmas.List.{drop-drop, drop-take, length-append, length-drop, take-append-drop, take-take, take_at}
-use Rattle.std.proofs.Math.Seq.{take-add}
+use Rattle.std.proofs.{Common.{arith, append_assoc}, lemmas.List.{drop-drop, drop-take, length-append, length-drop}}
+use Rattle.std.proofs.{lemmas.List.{take-append-drop, take-take, take_at}, Math.Seq.take-add}
+use Rattle.std.specs.{Prelude.slice_range, List.slice_get}
 use Rattle.item_terms.specs.Items.{Item}
 use Rattle.item_terms.specs.Words as word
-use Rattle.vote_laws.specs.Texts.{IsLineOf, text_before}
-use Rattle.vote_laws.proofs.Lines.{Follow, StandsFrom}
+use Rattle.vote_laws.{specs.Texts.{IsLineOf, text_before}, proofs.Lines.{Follow, StandsFrom}}
 
 -- ---- texts between places
 

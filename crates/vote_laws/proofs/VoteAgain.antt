@@ -1,42 +1,29 @@
 -- A vote that was written is read again.
-use Rattle.std.proofs.Common.{◌≡◌, ℕ, false, List, [], ◌∷◌, ◌++◌, length, take, drop, refl, sym, ap, subst}
-use Rattle.std.proofs.Common.{◌∙◌, append_assoc, append-nil}
-use Rattle.std.specs.Prelude.{◌&&◌, map}
-use Rattle.std.proofs.lemmas.List.{map-append}
+use Rattle.std.proofs.Common.{◌≡◌, ℕ, false, List, [], ◌∷◌, ◌++◌, length, take, drop, refl, sym, ap, subst, ◌∙◌}
+use Rattle.std.{proofs.{Common.{append_assoc, append-nil}, lemmas.List.map-append}, specs.Prelude.{◌&&◌, map}}
 use Rattle.item_terms.specs.Words.{begins_dash}
 use Rattle.dirdoc_grammar.specs.Writing.{AreWritable, NewItem, is_open, items_text}
 use Rattle.frame_terms.specs.Keywords.{same}
 use Rattle.frame_values.proofs.ItemsTexts.{sections}
-use Rattle.frame_laws.proofs.Ends.{entries_to}
-use Rattle.frame_laws.proofs.Entries.{item_of}
-use Rattle.frame_laws.proofs.LastRows.{section_to_is_read}
-use Rattle.frame_laws.proofs.Places.{after_all-append}
-use Rattle.frame_laws.proofs.ReadRows.{Stand, both_stand}
-use Rattle.frame_laws.proofs.SaidRows.{entries_of, row_once}
-use Rattle.frame_laws.proofs.Sections.{entries_in, rows_in, section_is_read}
-use Rattle.frame_laws.proofs.StandingParts.{between_stands}
+use Rattle.frame_laws.proofs.{Ends.entries_to, Entries.item_of, LastRows.section_to_is_read, Places.after_all-append}
+use Rattle.frame_laws.proofs.{ReadRows.{Stand, both_stand}, SaidRows.{entries_of, row_once}, Sections.entries_in}
+use Rattle.frame_laws.proofs.{Sections.{rows_in, section_is_read}, StandingParts.between_stands}
 use Rattle.frame_laws.proofs.WrittenRows.{ends_with_text, stand_written, text_of_entries}
 use Rattle.authority_certs.specs.Texts.{cert_text}
 use Rattle.certificate_laws.proofs.CertRows.{certificate_rows, certificate_same, certificate_version, certification}
-use Rattle.certificate_laws.proofs.CertSays.{certificate_says, whole_is}
-use Rattle.vote_terms.specs.declared.facts.VoteFacts.{VoteFacts}
+use Rattle.certificate_laws.{proofs.CertSays.{certificate_says, whole_is}, specs.Again.as_written}
+use Rattle.vote_terms.specs.{declared.facts.VoteFacts.VoteFacts, Votes.max_vote}
 use Rattle.vote_text.specs.Texts.{vote_text}
-use Rattle.vote_terms.specs.Votes.{max_vote}
-use Rattle.vote_frame.specs.Tables.{vote_tables}
-use Rattle.vote_frame.specs.declared.frame.VoteKind.TheVariants as kind
-use Rattle.vote_frame.specs.declared.frame.VoteSection.TheVariants.{Certificate}
+use Rattle.vote_frame.specs.{Tables.vote_tables, declared.frame.VoteSection.TheVariants.Certificate}
 use Rattle.vote_frame.specs.declared.frame.VoteValue.{VoteValue}
-use Rattle.vote_laws.specs.Again.{IsInRange, IsReadBack, VotesAreReadAgain, as_read}
-use Rattle.certificate_laws.specs.Again.{as_written}
-use Rattle.vote_laws.proofs.EntryKept.{entries_say, kept_list}
-use Rattle.vote_laws.proofs.VoteRows.{authority, certificate_row, facts_said, footer, front_read, preamble}
-use Rattle.vote_laws.proofs.Values.{values_in}
-use Rattle.vote_laws.proofs.VoteItems.{VoteEntry, signature_entry, signature_row}
+use Rattle.vote_frame.specs.declared.frame.VoteKind.TheVariants as kind
+use Rattle.vote_laws.{specs.Again.{IsInRange, IsReadBack, VotesAreReadAgain, as_read}, proofs.EntryKept.entries_say}
+use Rattle.vote_laws.proofs.{EntryKept.kept_list, VoteRows.{authority, certificate_row, facts_said, footer, front_read}}
+use Rattle.vote_laws.proofs.{VoteRows.preamble, Values.values_in, VoteItems.{VoteEntry, signature_entry, signature_row}}
 use Rattle.vote_laws.proofs.VotePlaces.{authority_place, certificate_place, entries_place, footer_place, in_authority}
-use Rattle.vote_laws.proofs.VotePlaces.{in_certificate, in_footer, in_preamble, vote_end, vote_kept}
-use Rattle.vote_laws.proofs.VoteRead.{closed, text_vote, used_of, vote_read}
-use Rattle.vote_laws.proofs.VoteSame.{footer_entries, in_cert, in_list, vote_entries, vote_same}
-use Rattle.vote_laws.proofs.VoteSigned.{begins_at, from_first, signed_is}
+use Rattle.vote_laws.proofs.{VotePlaces.{in_certificate, in_footer, in_preamble, vote_end, vote_kept}, VoteRead.closed}
+use Rattle.vote_laws.proofs.{VoteRead.{text_vote, used_of, vote_read}, VoteSame.{footer_entries, in_cert, in_list}}
+use Rattle.vote_laws.proofs.{VoteSame.{vote_entries, vote_same}, VoteSigned.{begins_at, from_first, signed_is}}
 use Rattle.vote_laws.proofs.VoteWritten.{authority_written, footer_ended, has_certificate, preamble_written}
 
 -- the items of a vote stand in its text

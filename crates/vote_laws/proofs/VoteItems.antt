@@ -1,51 +1,34 @@
 -- Each item of a vote that is written says what its row asks for.
 use Rattle.std.proofs.Common.{◌≡◌, ℕ, false, List, [], length, Option, Some, None, Result, Ok, refl, ap, ◌∙◌}
 use Rattle.std.specs.Prelude.{codes, option_map}
-use Rattle.dir_values.specs.FlagSets.{set_text}
+use Rattle.dir_values.specs.{FlagSets.set_text, Numbers.numbers_text}
 use Rattle.dirdoc_grammar.specs.Writing.{written}
-use Rattle.frame_terms.specs.Rows.{row}
-use Rattle.frame_terms.specs.declared.document.Taken.{Taken}
-use Rattle.frame_terms.specs.declared.fault.FrameFault.{FrameFault}
-use Rattle.frame_terms.specs.declared.keyword.Keyword.{Keyword}
-use Rattle.frame_terms.specs.declared.keyword.Keyword.TheVariants as the
-use Rattle.frame_terms.specs.declared.row.Count.{Count}
-use Rattle.frame_terms.specs.declared.row.Count.TheVariants.{One, Optional}
-use Rattle.frame_terms.specs.declared.row.Limit.TheVariants as limit
+use Rattle.frame_terms.specs.{Rows.row, declared.{document.Taken.Taken, fault.FrameFault.FrameFault}}
+use Rattle.frame_terms.specs.declared.{keyword.Keyword.Keyword, row.Count.{Count, TheVariants.{One, Optional}}}
 use Rattle.frame_terms.specs.declared.row.Row.{Row}
-use Rattle.frame_values.specs.Arguments.{next}
-use Rattle.frame_values.specs.Faults.{at_place, unless_fault}
-use Rattle.frame_values.specs.Items.{bare}
-use Rattle.frame_values.specs.Ranges.{AreTwenty}
-use Rattle.frame_values.specs.Lines.{flags_of, numbers_of}
-use Rattle.frame_values.specs.Signatures.{signature_of}
-use Rattle.frame_values.specs.declared.values.Value.{Value}
+use Rattle.frame_terms.specs.declared.keyword.Keyword.TheVariants as the
+use Rattle.frame_terms.specs.declared.row.Limit.TheVariants as limit
+use Rattle.frame_values.specs.{Arguments.next, Faults.{at_place, unless_fault}, Items.bare, Ranges.AreTwenty}
+use Rattle.frame_values.specs.{Lines.{flags_of, numbers_of}, Signatures.signature_of, declared.values.Value.Value}
 use Rattle.frame_values.specs.declared.values.Value.TheVariants as value
-use Rattle.frame_laws.proofs.Entries.{AlwaysSuits, Entry, item_of}
-use Rattle.frame_laws.proofs.RowValues.{own_entry, row_if, text_entry, silent_entry}
-use Rattle.frame_laws.proofs.SaidRows.{IsSaid, RowSays}
-use Rattle.frame_laws.proofs.Sections.{Section}
+use Rattle.frame_laws.proofs.{Entries.{AlwaysSuits, Entry, item_of}, RowValues.{own_entry, row_if, text_entry}}
+use Rattle.frame_laws.proofs.{RowValues.silent_entry, SaidRows.{IsSaid, RowSays}, Sections.Section}
 use Rattle.frame_laws.proofs.WrittenItems.{literal-written, rest_at, start_of}
-use Rattle.group_laws.proofs.WrittenDelays.{flags-written, length-flags}
-use Rattle.group_laws.proofs.ListRows.{HasLists, ListKinds}
-use Rattle.group_laws.proofs.Readings.{Reads, few, suits_reading, text_at}
-use Rattle.group_laws.proofs.SourceRows.{HasRests, HasSources}
-use Rattle.group_laws.proofs.SourceRows as rests
+use Rattle.group_laws.proofs.{WrittenDelays.{flags-written, length-flags}, ListRows.{HasLists, ListKinds}}
+use Rattle.group_laws.proofs.{Readings.{Reads, few, suits_reading, text_at}, SourceRows.{HasRests, HasSources}}
 use Rattle.group_laws.proofs.TimeRows.{HasTimes}
+use Rattle.group_laws.proofs.SourceRows as rests
 use Rattle.group_laws.proofs.TimeRows as group
-use Rattle.vote_terms.specs.declared.facts.SignatureFacts.{SignatureFacts}
-use Rattle.vote_terms.specs.declared.facts.VoteFacts.{VoteFacts}
+use Rattle.vote_terms.specs.declared.facts.{SignatureFacts.SignatureFacts, VoteFacts.VoteFacts}
 use Rattle.vote_text.specs.Texts.{signer_text, source_text}
-use Rattle.dir_values.specs.Numbers.{numbers_text}
 use Rattle.relay_entries.specs.declared.listed.Listed.{Listed}
-use Rattle.vote_frame.specs.Tables.{ignores, over_limit, value_at, vote_tables}
-use Rattle.vote_frame.specs.declared.frame.VoteKind.{VoteKind}
+use Rattle.vote_frame.specs.{Tables.{ignores, over_limit, value_at, vote_tables}, declared.frame.VoteKind.VoteKind}
+use Rattle.vote_frame.specs.declared.frame.{VoteSection.VoteSection, VoteValue.VoteValue}
 use Rattle.vote_frame.specs.declared.frame.VoteKind.TheVariants as kind
-use Rattle.vote_frame.specs.declared.frame.VoteSection.{VoteSection}
-use Rattle.vote_frame.specs.declared.frame.VoteValue.{VoteValue}
 use Rattle.vote_frame.specs.declared.frame.VoteValue.TheVariants as own
-use Rattle.vote_laws.specs.Again.{AreFlags, AreMethods, HasValuesInRange}
-use Rattle.vote_laws.proofs.WrittenSources.{source-written, source_at}
-use Rattle.vote_laws.proofs.WrittenValues.{length-numbers, numbers-written, signature-written, signature_at}
+use Rattle.vote_laws.{specs.Again.{AreFlags, AreMethods, HasValuesInRange}, proofs.WrittenSources.source-written}
+use Rattle.vote_laws.proofs.{WrittenSources.source_at, WrittenValues.{length-numbers, numbers-written}}
+use Rattle.vote_laws.proofs.WrittenValues.{signature-written, signature_at}
 
 -- what an item of a vote is, with what it says, and a row of its tables
 abbrev pub VoteEntry : Type 0

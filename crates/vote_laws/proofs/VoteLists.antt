@@ -1,25 +1,18 @@
 -- The lists of a vote, row by row: each is read as the list that it was written for.
-use Rattle.std.proofs.Common.{◌≡◌, List, [], ◌∷◌, ◌++◌, ℕ, Option, Some, None}
-use Rattle.std.specs.Prelude.{ℤ, IfSome, option_map}
+use Rattle.std.{proofs.Common.{◌≡◌, List, [], ◌∷◌, ◌++◌, ℕ, Option, Some, None}, specs.Prelude.{ℤ, IfSome, option_map}}
 use Rattle.frame_terms.specs.declared.document.Taken.{Taken}
 use Rattle.frame_terms.specs.declared.keyword.Keyword.TheVariants as the
 use Rattle.frame_terms.specs.declared.row.Limit.TheVariants as limit
-use Rattle.frame_values.specs.Parts.{part}
-use Rattle.frame_values.specs.Values.{item_at, text_if}
-use Rattle.frame_values.specs.declared.values.Value.{Value}
-use Rattle.frame_laws.proofs.Both.{both_hold}
-use Rattle.frame_laws.proofs.ReadRows.{IsRead}
-use Rattle.frame_laws.proofs.SaidRows.{AreSaid}
+use Rattle.frame_values.specs.{Parts.part, Values.{item_at, text_if}, declared.values.Value.Value}
+use Rattle.frame_laws.proofs.{Both.both_hold, ReadRows.IsRead, SaidRows.AreSaid}
 use Rattle.group_laws.proofs.ListRows.{AreParamsWithin}
 use Rattle.group_laws.proofs.ListRows as group
 use Rattle.list_values.specs.declared.named.Named.{Named}
 use Rattle.value_groups.specs.Listed.{params_in}
 use Rattle.value_laws.specs.Ranges.{AreParamsInRange}
 use Rattle.vote_terms.specs.declared.lists.VoteLists.{VoteLists}
-use Rattle.vote_frame.specs.Tables.{vote_tables}
-use Rattle.vote_frame.specs.declared.frame.VoteValue.{VoteValue}
-use Rattle.vote_laws.specs.Again.{AreListsInRange, AreVoteParams}
-use Rattle.vote_laws.proofs.VoteItems.{VoteRow, has_lists, list_kinds}
+use Rattle.vote_frame.specs.{Tables.vote_tables, declared.frame.VoteValue.VoteValue}
+use Rattle.vote_laws.{specs.Again.{AreListsInRange, AreVoteParams}, proofs.VoteItems.{VoteRow, has_lists, list_kinds}}
 
 -- the rows of two lists
 pub both_said : (front back : List VoteRow) → AreSaid vote_tables front → AreSaid vote_tables back

@@ -1,34 +1,20 @@
 -- Where the sections of a vote begin that was written, what is taken of them, and what is kept.
-use Rattle.std.proofs.Common.{◌≡◌, ℕ, true, List, [], ◌∷◌, ◌++◌, refl}
-use Rattle.std.specs.Prelude.{map}
-use Rattle.std.specs.List.{fold, list_all}
-use Rattle.frame_terms.specs.Documents.{Document, group}
-use Rattle.frame_terms.specs.declared.row.Row.{Row}
+use Rattle.std.{proofs.Common.{◌≡◌, ℕ, true, List, [], ◌∷◌, ◌++◌, refl}, specs.{Prelude.map, List.{fold, list_all}}}
+use Rattle.frame_terms.specs.{Documents.{Document, group}, declared.row.Row.Row}
 use Rattle.frame_values.specs.declared.values.Value.{Value}
-use Rattle.frame_laws.proofs.Both.{both_hold}
-use Rattle.frame_laws.proofs.Ends.{end_with, taken_to}
-use Rattle.frame_laws.proofs.Groups.{groups_in}
-use Rattle.frame_laws.proofs.Passing.{EachPasses, both_pass, rows_pass}
-use Rattle.frame_laws.proofs.Places.{after_all}
-use Rattle.frame_laws.proofs.SaidRows.{AreSaid, rows_of}
+use Rattle.frame_laws.proofs.{Both.both_hold, Ends.{end_with, taken_to}, Groups.groups_in, Passing.EachPasses}
+use Rattle.frame_laws.proofs.{Passing.{both_pass, rows_pass}, Places.after_all, SaidRows.{AreSaid, rows_of}}
 use Rattle.frame_laws.proofs.Sections.{end_of, entries_in, taken_in}
 use Rattle.certificate_laws.proofs.CertRows.{cert_taken, certificate_version}
 use Rattle.vote_terms.specs.declared.facts.VoteFacts.{VoteFacts}
-use Rattle.vote_frame.specs.Tables.{vote_tables}
-use Rattle.vote_frame.specs.declared.frame.VoteKind.{VoteKind}
-use Rattle.vote_frame.specs.declared.frame.VoteSection.{VoteSection}
+use Rattle.vote_frame.specs.{Tables.vote_tables, declared.frame.{VoteKind.VoteKind, VoteSection.VoteSection}}
 use Rattle.vote_frame.specs.declared.frame.VoteSection.TheVariants.{Authority, Certificate, Footer, Preamble}
 use Rattle.vote_frame.specs.declared.frame.VoteValue.{VoteValue}
 use Rattle.vote_doc.specs.Heads.{no_head, with_authority, with_certificate, with_footer, with_preamble}
-use Rattle.vote_doc.specs.Kept.{none_kept}
-use Rattle.vote_doc.specs.declared.head.Head.{Head}
-use Rattle.vote_doc.specs.declared.kept.Kept.{Kept}
-use Rattle.vote_laws.specs.Again.{IsInRange}
-use Rattle.vote_laws.proofs.EntryKept.{entries_kept, keeps, kept_list}
-use Rattle.vote_laws.proofs.EntryRows.{entry_section}
-use Rattle.vote_laws.proofs.Heard.{is_quiet, is_quiet_kind, kinds_pass}
-use Rattle.vote_laws.proofs.VoteItems.{VoteEntry, VotePart, VoteTaken, signature_entry}
-use Rattle.vote_laws.proofs.VoteRows.{authority, footer, preamble}
+use Rattle.vote_doc.specs.{Kept.none_kept, declared.{head.Head.Head, kept.Kept.Kept}}
+use Rattle.vote_laws.{specs.Again.IsInRange, proofs.EntryKept.{entries_kept, keeps, kept_list}}
+use Rattle.vote_laws.proofs.{EntryRows.entry_section, Heard.{is_quiet, is_quiet_kind, kinds_pass}, VoteItems.VoteEntry}
+use Rattle.vote_laws.proofs.{VoteItems.{VotePart, VoteTaken, signature_entry}, VoteRows.{authority, footer, preamble}}
 use Rattle.vote_laws.proofs.VoteSame.{in_cert, in_list}
 
 -- a document of what is taken of its sections

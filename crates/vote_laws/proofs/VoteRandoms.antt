@@ -1,39 +1,23 @@
 -- The shared random values of a vote, row by row: each is read as it was written, and remembered.
 use Rattle.std.proofs.Common.{◌≡◌, ℕ, List, [], ◌∷◌, ◌++◌, Option, Some, None, Result, Ok, refl, ap, ◌∙◌}
-use Rattle.std.specs.Prelude.{IfSome, decimal, is_some, map, option_map}
-use Rattle.std.specs.Option.{option_or}
+use Rattle.std.specs.{Prelude.{IfSome, decimal, is_some, map, option_map}, Option.option_or}
 use Rattle.dirdoc_grammar.specs.Writing.{IsLineRest}
-use Rattle.frame_terms.specs.Rows.{row}
-use Rattle.frame_terms.specs.declared.document.Taken.{Taken}
-use Rattle.frame_terms.specs.declared.row.Count.TheVariants.{Optional}
-use Rattle.frame_terms.specs.declared.row.Row.{Row}
-use Rattle.frame_values.specs.Items.{item_if}
-use Rattle.frame_values.specs.Values.{item_at}
-use Rattle.frame_values.specs.declared.values.Value.{Value}
+use Rattle.frame_terms.specs.{Rows.row, declared.{document.Taken.Taken, row.{Count.TheVariants.Optional, Row.Row}}}
+use Rattle.frame_values.specs.{Items.item_if, Values.item_at, declared.values.Value.Value}
 use Rattle.frame_values.specs.declared.values.Value.TheVariants as value
-use Rattle.frame_laws.proofs.Entries.{all_taken, item_of}
-use Rattle.frame_laws.proofs.Places.{after_all}
-use Rattle.frame_laws.proofs.ReadRows.{IsRead, item_of_row}
-use Rattle.frame_laws.proofs.Remembered.{Notes, notes_both}
-use Rattle.frame_laws.proofs.RowCounts.{said_none, said_once}
-use Rattle.frame_laws.proofs.RowValues.{own_entry}
-use Rattle.frame_laws.proofs.SaidRows.{IsSaid}
-use Rattle.frame_laws.proofs.Words.{two_words, word_of_number}
-use Rattle.group_laws.specs.LineAgain.{IsRandomInRange}
-use Rattle.group_laws.proofs.WrittenRandoms.{random_again, word_of_value}
+use Rattle.frame_laws.proofs.{Entries.{all_taken, item_of}, Places.after_all, ReadRows.{IsRead, item_of_row}}
+use Rattle.frame_laws.proofs.{Remembered.{Notes, notes_both}, RowCounts.{said_none, said_once}, RowValues.own_entry}
+use Rattle.frame_laws.proofs.{SaidRows.IsSaid, Words.{two_words, word_of_number}}
+use Rattle.group_laws.{specs.LineAgain.IsRandomInRange, proofs.WrittenRandoms.{random_again, word_of_value}}
 use Rattle.value_laws.proofs.LineWords.{rest_of_words}
-use Rattle.value_groups.specs.Values.{padded_text, random_text}
-use Rattle.value_groups.specs.declared.line.RandomLine.{RandomLine}
-use Rattle.value_groups.specs.declared.line.RandomLine.TheVariants as line
+use Rattle.value_groups.specs.{Values.{padded_text, random_text}, declared.line.RandomLine.RandomLine}
 use Rattle.value_groups.specs.declared.value.SharedRandom.{SharedRandom}
+use Rattle.value_groups.specs.declared.line.RandomLine.TheVariants as line
 use Rattle.vote_doc.specs.Saying.{random_in}
 use Rattle.relay_entries.specs.Listing.{none_listed}
-use Rattle.vote_frame.specs.Across.{keyword_of, nothing_across}
-use Rattle.vote_frame.specs.Tables.{vote_tables}
-use Rattle.vote_frame.specs.declared.across.Across.{Across}
-use Rattle.vote_frame.specs.declared.frame.VoteKind.{VoteKind}
+use Rattle.vote_frame.specs.{Across.{keyword_of, nothing_across}, Tables.vote_tables, declared.across.Across.Across}
+use Rattle.vote_frame.specs.declared.frame.{VoteKind.VoteKind, VoteValue.VoteValue}
 use Rattle.vote_frame.specs.declared.frame.VoteKind.TheVariants as kind
-use Rattle.vote_frame.specs.declared.frame.VoteValue.{VoteValue}
 use Rattle.vote_frame.specs.declared.frame.VoteValue.TheVariants as own
 use Rattle.vote_laws.proofs.VoteItems.{SuitsVote, VoteEntry, VoteRow, suits}
 

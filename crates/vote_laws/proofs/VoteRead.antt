@@ -1,67 +1,45 @@
 -- A vote that was written is read: its document, and where it ends.
-use Rattle.std.proofs.Common.{◌≡◌, ℕ, ◌+◌, ◌≤◌, false, List, [], ◌∷◌, ◌++◌, length, take, Option, None, Some}
-use Rattle.std.proofs.Common.{Result, Ok, refl, sym, ap, subst, ◌∙◌, append_assoc, append-nil, arith}
-use Rattle.std.specs.Prelude.{◌&&◌, map}
-use Rattle.std.proofs.Math.Seq.{drop-append_seam, take-append_seam}
-use Rattle.item_terms.specs.Items.{Contents, Item, contents, nothing}
-use Rattle.item_terms.specs.Words.{begins_dash}
+use Rattle.std.proofs.Common.{◌≡◌, ℕ, ◌+◌, ◌≤◌, false, List, [], ◌∷◌, ◌++◌, length, take, Option, None, Some, Result}
+use Rattle.std.proofs.Common.{Ok, refl, sym, ap, subst, ◌∙◌, append_assoc, append-nil, arith}
+use Rattle.std.{proofs.Math.Seq.{drop-append_seam, take-append_seam}, specs.Prelude.{◌&&◌, map}}
+use Rattle.item_terms.specs.{Items.{Contents, Item, contents, nothing}, Words.begins_dash}
 use Rattle.item_terms.specs.declared.fault.DocFault.{DocFault}
 use Rattle.grammar_laws.proofs.ItemsAgain.{items_again}
 use Rattle.dirdoc_grammar.specs.Writing.{NewItem, all_written, in_front, is_open, items_text, lacks_object, written}
-use Rattle.frame_terms.specs.Decisions.{made_by}
-use Rattle.frame_terms.specs.Documents.{document_of, finish, group, onto, read_items, start}
-use Rattle.frame_terms.specs.Keywords.{same}
-use Rattle.frame_terms.specs.Sections.{lacking_keyword}
-use Rattle.frame_terms.specs.declared.document.Group.{Group}
-use Rattle.frame_terms.specs.declared.document.Made.TheVariants.{Enters}
-use Rattle.frame_terms.specs.declared.fault.ReadRefusal.{ReadRefusal}
+use Rattle.frame_terms.specs.{Decisions.made_by, Documents.{document_of, finish, group, onto, read_items, start}}
+use Rattle.frame_terms.specs.{Keywords.same, Sections.lacking_keyword, declared.document.Group.Group}
+use Rattle.frame_terms.specs.declared.{document.Made.TheVariants.Enters, fault.ReadRefusal.ReadRefusal}
 use Rattle.frame_terms.specs.declared.keyword.Keyword.TheVariants as the
 use Rattle.frame_values.specs.declared.values.Value.{Value}
-use Rattle.frame_laws.proofs.Ends.{entering, first_ends, inside_read, taken_to-parts}
-use Rattle.frame_laws.proofs.Entries.{after_one, all_taken, item_of, taken_at}
-use Rattle.frame_laws.proofs.Following.{first_read, section_read}
-use Rattle.frame_laws.proofs.Groups.{groups_in}
-use Rattle.frame_laws.proofs.LastRows.{section_to_whole}
-use Rattle.frame_laws.proofs.Both.{both_hold}
-use Rattle.frame_laws.proofs.Passing.{EachPasses, notes_passing, rows_pass}
-use Rattle.frame_laws.proofs.Remembered.{Notes, notes_both}
-use Rattle.frame_laws.proofs.RowValues.{text_entry_if}
-use Rattle.frame_laws.proofs.Places.{after_all, after_all-append, both_written}
-use Rattle.frame_laws.proofs.Sections.{entries_in, others_in, section_before_last, section_whole, taken_in}
-use Rattle.frame_laws.proofs.Steps.{opening}
+use Rattle.frame_laws.proofs.{Ends.{entering, first_ends, inside_read, taken_to-parts}, Entries.{after_one, all_taken}}
+use Rattle.frame_laws.proofs.{Entries.{item_of, taken_at}, Following.{first_read, section_read}, Groups.groups_in}
+use Rattle.frame_laws.proofs.{LastRows.section_to_whole, Both.both_hold, Passing.{EachPasses, notes_passing, rows_pass}}
+use Rattle.frame_laws.proofs.{Remembered.{Notes, notes_both}, RowValues.text_entry_if, Places.after_all}
+use Rattle.frame_laws.proofs.{Places.{after_all-append, both_written}, Sections.{entries_in, others_in}}
+use Rattle.frame_laws.proofs.{Sections.{section_before_last, section_whole, taken_in}, Steps.opening}
 use Rattle.frame_laws.proofs.WrittenRows.{ends_with_text, is_closed}
 use Rattle.certificate_laws.proofs.CertRows.{certificate, certificate_ended, certificate_version, certification}
-use Rattle.certificate_laws.proofs.CertRows.{last_row}
-use Rattle.certificate_laws.proofs.CertSays.{cert_ends}
+use Rattle.certificate_laws.proofs.{CertRows.last_row, CertSays.cert_ends}
 use Rattle.value_groups.specs.declared.line.RandomLine.TheVariants as line
-use Rattle.vote_terms.specs.Votes.{ReadVote, max_vote}
-use Rattle.vote_terms.specs.declared.facts.SignatureFacts.{SignatureFacts}
+use Rattle.vote_terms.specs.{Votes.{ReadVote, max_vote}, declared.facts.SignatureFacts.SignatureFacts}
 use Rattle.vote_terms.specs.declared.facts.VoteFacts.{VoteFacts}
 use Rattle.vote_text.specs.Texts.{vote_items, vote_text}
 use Rattle.blank_lines.specs.Behind.{behind}
-use Rattle.vote_doc.specs.Facts.{vote_in}
-use Rattle.vote_doc.specs.Kept.{kept_with, none_kept}
-use Rattle.vote_doc.specs.Reading.{vote_from, vote_of, with_facts}
+use Rattle.vote_doc.specs.{Facts.vote_in, Kept.{kept_with, none_kept}, Reading.{vote_from, vote_of, with_facts}}
 use Rattle.vote_doc.specs.declared.kept.Kept.{Kept}
-use Rattle.vote_frame.specs.Across.{nothing_across}
-use Rattle.vote_frame.specs.Tables.{vote_tables}
-use Rattle.vote_frame.specs.declared.frame.VoteKind.TheVariants as kind
-use Rattle.vote_frame.specs.declared.frame.VoteSection.{VoteSection}
+use Rattle.vote_frame.specs.{Across.nothing_across, Tables.vote_tables, declared.frame.VoteSection.VoteSection}
 use Rattle.vote_frame.specs.declared.frame.VoteSection.TheVariants.{Authority, Certificate, Footer, Preamble}
 use Rattle.vote_frame.specs.declared.frame.VoteValue.{VoteValue}
-use Rattle.vote_laws.specs.Again.{HasValuesInRange, IsInRange}
-use Rattle.vote_laws.proofs.EntryRows.{taken_parts}
-use Rattle.vote_laws.proofs.Heard.{forgotten, is_quiet, is_quiet_kind, kinds_pass}
-use Rattle.vote_laws.proofs.Values.{values_in}
-use Rattle.vote_laws.proofs.VoteItems.{VoteEntry, VotePart, VoteTaken, signature_entry, source_entry, suits_source}
-use Rattle.vote_laws.proofs.VoteItems.{suits_version}
-use Rattle.vote_laws.proofs.VoteRandoms.{notes_randoms, random_if}
-use Rattle.vote_laws.proofs.VotePlaces.{VoteDocument, all_kept, authority_place, certificate_place}
-use Rattle.vote_laws.proofs.VotePlaces.{entries_place, in_certificate, in_footer, in_preamble, section_quiet}
-use Rattle.vote_laws.proofs.VotePlaces.{section_to_quiet, sections_of, vote_document, vote_end, vote_kept}
-use Rattle.vote_laws.proofs.VoteRows.{authority, certificate_row, footer, preamble, preamble_rows, preamble_said}
-use Rattle.vote_laws.proofs.VoteSame.{footer_entries, in_cert, in_list, vote_entries, vote_same}
-use Rattle.vote_laws.proofs.VoteTail.{remembered, tail_read}
+use Rattle.vote_frame.specs.declared.frame.VoteKind.TheVariants as kind
+use Rattle.vote_laws.{specs.Again.{HasValuesInRange, IsInRange}, proofs.{EntryRows.taken_parts, Heard.forgotten}}
+use Rattle.vote_laws.proofs.{Heard.{is_quiet, is_quiet_kind, kinds_pass}, Values.values_in, VoteItems.VoteEntry}
+use Rattle.vote_laws.proofs.VoteItems.{VotePart, VoteTaken, signature_entry, source_entry, suits_source, suits_version}
+use Rattle.vote_laws.proofs.{VoteRandoms.{notes_randoms, random_if}, VotePlaces.{VoteDocument, all_kept}}
+use Rattle.vote_laws.proofs.VotePlaces.{authority_place, certificate_place, entries_place, in_certificate, in_footer}
+use Rattle.vote_laws.proofs.VotePlaces.{in_preamble, section_quiet, section_to_quiet, sections_of, vote_document}
+use Rattle.vote_laws.proofs.{VotePlaces.{vote_end, vote_kept}, VoteRows.{authority, certificate_row, footer, preamble}}
+use Rattle.vote_laws.proofs.{VoteRows.{preamble_rows, preamble_said}, VoteSame.{footer_entries, in_cert, in_list}}
+use Rattle.vote_laws.proofs.{VoteSame.{vote_entries, vote_same}, VoteTail.{remembered, tail_read}}
 use Rattle.vote_laws.proofs.VoteWritten.{authority_follows, authority_written, has_certificate, preamble_first}
 use Rattle.vote_laws.proofs.VoteWritten.{preamble_written}
 

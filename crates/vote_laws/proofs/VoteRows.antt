@@ -1,57 +1,40 @@
 -- A vote, row by row of its sections' tables: what is written, that its items may be, and what is read of them.
-use Rattle.std.proofs.Common.{◌≡◌, ℕ, List, [], ◌∷◌, ◌++◌, Option, Some, None, refl}
-use Rattle.std.specs.Prelude.{IfSome, codes, map}
+use Rattle.std.{proofs.Common.{◌≡◌, ℕ, List, [], ◌∷◌, ◌++◌, Option, Some, None, refl}, specs.Prelude.{IfSome, codes}}
+use Rattle.std.specs.Prelude.{map}
 use Rattle.dirdoc_grammar.specs.Writing.{IsLineRest}
-use Rattle.dir_values.specs.FlagSets.{set_text}
+use Rattle.dir_values.specs.{FlagSets.set_text, Numbers.numbers_text}
 use Rattle.grammar_laws.proofs.LineRests.{rest_of_argument}
-use Rattle.frame_terms.specs.Keywords.{same}
-use Rattle.frame_terms.specs.Rows.{row}
+use Rattle.frame_terms.specs.{Keywords.same, Rows.row, declared.row.{Count.TheVariants.{One, Optional}, Row.Row}}
+use Rattle.frame_terms.specs.declared.document.Taken.{Taken}
 use Rattle.frame_terms.specs.declared.keyword.Keyword.TheVariants as the
-use Rattle.frame_terms.specs.declared.row.Count.TheVariants.{One, Optional}
-use Rattle.frame_terms.specs.declared.row.Row.{Row}
-use Rattle.frame_laws.proofs.Both.{both_hold}
-use Rattle.frame_laws.proofs.RowCounts.{said_none, said_once}
-use Rattle.frame_laws.proofs.RowValues.{text_entry, silent_entry, moment_said, text_if_said}
-use Rattle.frame_laws.proofs.SaidRows.{AreSaid, IsSaid, row_once, RowSays}
-use Rattle.frame_laws.proofs.Sections.{rows_in}
-use Rattle.frame_laws.proofs.WordTexts.{words_of_flags}
-use Rattle.group_laws.proofs.TimeRows.{Times, times_said}
+use Rattle.frame_laws.proofs.{Both.both_hold, RowCounts.{said_none, said_once}, RowValues.{text_entry, silent_entry}}
+use Rattle.frame_laws.proofs.{RowValues.{moment_said, text_if_said}, SaidRows.{AreSaid, IsSaid, row_once, RowSays}}
+use Rattle.frame_laws.proofs.{Sections.rows_in, WordTexts.words_of_flags, LastRows.rows_to, Places.after_all}
+use Rattle.frame_laws.proofs.ReadRows.{AreRead, Each, IsRead, row_read}
+use Rattle.group_laws.proofs.{TimeRows.{Times, times_said}, ListRows.{protocols_back, versions_back}}
 use Rattle.group_laws.proofs.TimeRows as group
 use Rattle.value_laws.proofs.LineWords.{rest_of_words}
-use Rattle.authority_certs.specs.declared.cert.Cert.{Cert}
-use Rattle.vote_terms.specs.declared.facts.VoteFacts.{VoteFacts}
-use Rattle.vote_terms.specs.declared.lists.VoteLists.{VoteLists}
-use Rattle.dir_values.specs.Numbers.{numbers_text}
+use Rattle.authority_certs.specs.{declared.cert.Cert.Cert, Certs.cert_in, Heads.head_of}
+use Rattle.vote_terms.specs.{declared.{facts.VoteFacts.VoteFacts, lists.VoteLists.VoteLists}, ListLines.lists_in}
+use Rattle.vote_terms.specs.ListLines.{vote_lists}
 use Rattle.value_groups.specs.declared.line.RandomLine.TheVariants as line
-use Rattle.vote_frame.specs.Tables.{vote_tables}
-use Rattle.vote_frame.specs.declared.frame.VoteKind.{VoteKind}
+use Rattle.vote_frame.specs.{Tables.vote_tables, declared.frame.{VoteKind.VoteKind, VoteSection.TheVariants.Authority}}
+use Rattle.vote_frame.specs.declared.frame.{VoteSection.TheVariants.{Footer, Preamble}, VoteValue.VoteValue}
 use Rattle.vote_frame.specs.declared.frame.VoteKind.TheVariants as kind
 use Rattle.vote_frame.specs.declared.frame.VoteValue.TheVariants as own
-use Rattle.vote_frame.specs.declared.frame.VoteSection.TheVariants.{Authority, Footer, Preamble}
-use Rattle.vote_laws.specs.Again.{AreMethods, HasValuesInRange}
-use Rattle.vote_laws.proofs.BareRows.{AreRests, RowsAreBare, both_bare, methods_bare, moment_bare, once_bare}
-use Rattle.vote_laws.proofs.BareRows.{params_bare, protocols_bare, random_bare, text_bare, times_bare, versions_bare}
-use Rattle.vote_laws.proofs.VoteLists.{both_said, param_rows, params_back, params_said, protocol_rows, protocols_said}
-use Rattle.vote_laws.proofs.VoteLists.{version_rows, versions_said}
-use Rattle.vote_laws.proofs.VoteItems.{VotePart, VoteRow, has_times, list_kinds, methods_if, moment_row, rest_if}
-use Rattle.vote_laws.proofs.VoteItems.{said_moment, said_rest_if, signature_entry, signature_row, source_entry}
-use Rattle.vote_laws.proofs.VoteItems.{suits_flags, suits_methods, suits_status}
-use Rattle.vote_laws.proofs.VoteRandoms.{kept_random, random_row, random_said}
-use Rattle.frame_terms.specs.declared.document.Taken.{Taken}
-use Rattle.frame_laws.proofs.LastRows.{rows_to}
-use Rattle.frame_laws.proofs.Places.{after_all}
-use Rattle.frame_laws.proofs.ReadRows.{AreRead, Each, IsRead, row_read}
-use Rattle.group_laws.proofs.ListRows.{protocols_back, versions_back}
-use Rattle.authority_certs.specs.Certs.{cert_in}
-use Rattle.authority_certs.specs.Heads.{head_of}
-use Rattle.vote_entries.specs.Entries.{entry_in}
-use Rattle.vote_entries.specs.Kept.{KeptEntry}
-use Rattle.vote_doc.specs.Facts.{facts_of}
-use Rattle.vote_doc.specs.Heads.{no_head, with_authority, with_certificate, with_footer, with_preamble}
-use Rattle.vote_terms.specs.ListLines.{lists_in, vote_lists}
-use Rattle.vote_frame.specs.declared.frame.VoteValue.{VoteValue}
+use Rattle.vote_laws.{specs.Again.{AreMethods, HasValuesInRange}, proofs.BareRows.{AreRests, RowsAreBare, both_bare}}
+use Rattle.vote_laws.proofs.BareRows.{methods_bare, moment_bare, once_bare, params_bare, protocols_bare, random_bare}
+use Rattle.vote_laws.proofs.{BareRows.{text_bare, times_bare, versions_bare}, VoteLists.{both_said, param_rows}}
+use Rattle.vote_laws.proofs.VoteLists.{params_back, params_said, protocol_rows, protocols_said, version_rows}
+use Rattle.vote_laws.proofs.{VoteLists.versions_said, VoteItems.{VotePart, VoteRow, has_times, list_kinds, methods_if}}
+use Rattle.vote_laws.proofs.VoteItems.{moment_row, rest_if, said_moment, said_rest_if, signature_entry, signature_row}
+use Rattle.vote_laws.proofs.VoteItems.{source_entry, suits_flags, suits_methods, suits_status}
+use Rattle.vote_laws.proofs.{VoteRandoms.{kept_random, random_row, random_said}, VoteSays.{delays_said, flags_said}}
+use Rattle.vote_laws.proofs.VoteSays.{methods_said, signature_said, source_said}
+use Rattle.vote_entries.specs.{Entries.entry_in, Kept.KeptEntry}
+use Rattle.vote_doc.specs.{Facts.facts_of, Heads.{no_head, with_authority, with_certificate, with_footer}}
+use Rattle.vote_doc.specs.Heads.{with_preamble}
 use Rattle.frame_values.specs.declared.values.Value.{Value}
-use Rattle.vote_laws.proofs.VoteSays.{delays_said, flags_said, methods_said, signature_said, source_said}
 
 -- ---- the preamble
 

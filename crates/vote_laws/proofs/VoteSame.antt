@@ -1,33 +1,22 @@
 -- The items of a vote by its sections' rows are those of its text.
 use Rattle.std.proofs.Common.{◌≡◌, List, [], ◌∷◌, ◌++◌, refl, sym, ap, append_assoc, append-nil, ◌∙◌}
-use Rattle.std.specs.Prelude.{map}
-use Rattle.std.proofs.lemmas.List.{map-append}
+use Rattle.std.{proofs.lemmas.List.map-append, specs.Prelude.map}
 use Rattle.dirdoc_grammar.specs.Writing.{NewItem}
 use Rattle.frame_terms.specs.declared.keyword.Keyword.TheVariants as the
 use Rattle.frame_values.specs.Items.{bare}
-use Rattle.frame_laws.proofs.Ends.{entries_to}
-use Rattle.frame_laws.proofs.Entries.{item_of}
-use Rattle.frame_laws.proofs.Following.{entries_all}
-use Rattle.frame_laws.proofs.RowCounts.{items_of-append}
-use Rattle.frame_laws.proofs.RowValues.{items_if}
-use Rattle.frame_laws.proofs.SaidRows.{items_of}
-use Rattle.frame_laws.proofs.Sections.{entries_in}
+use Rattle.frame_laws.proofs.{Ends.entries_to, Entries.item_of, Following.entries_all, RowCounts.items_of-append}
+use Rattle.frame_laws.proofs.{RowValues.items_if, SaidRows.items_of, Sections.entries_in}
 use Rattle.authority_certs.specs.Texts.{cert_items}
 use Rattle.certificate_laws.proofs.CertRows.{cert_entries, certificate_same}
-use Rattle.vote_terms.specs.declared.facts.VoteFacts.{VoteFacts}
-use Rattle.vote_terms.specs.declared.lists.VoteLists.{VoteLists}
-use Rattle.vote_text.specs.Entries.{entries_items}
-use Rattle.vote_text.specs.Lists.{param_items, protocol_items, version_items}
+use Rattle.vote_terms.specs.declared.{facts.VoteFacts.VoteFacts, lists.VoteLists.VoteLists}
+use Rattle.vote_text.specs.{Entries.entries_items, Lists.{param_items, protocol_items, version_items}}
 use Rattle.vote_text.specs.Texts.{authority_items, flag_items, footer_items, kind_items, preamble_items, time_items}
 use Rattle.vote_text.specs.Texts.{vote_items}
 use Rattle.vote_frame.specs.declared.frame.VoteValue.{VoteValue}
-use Rattle.vote_laws.specs.Again.{unsigned_items}
-use Rattle.vote_laws.proofs.EntryRows.{entry_section}
-use Rattle.vote_laws.proofs.EntrySame.{entries_same}
-use Rattle.vote_laws.proofs.VoteItems.{VoteEntry, VoteRow, signature_entry}
-use Rattle.vote_laws.proofs.VoteLists.{param_rows, protocol_rows, version_rows}
-use Rattle.vote_laws.proofs.VoteRandoms.{random_items_are}
-use Rattle.vote_laws.proofs.VoteRows.{authority, flag_rows, footer, kind_rows, preamble, time_rows}
+use Rattle.vote_laws.{specs.Again.unsigned_items, proofs.{EntryRows.entry_section, EntrySame.entries_same}}
+use Rattle.vote_laws.proofs.{VoteItems.{VoteEntry, VoteRow, signature_entry}, VoteLists.{param_rows, protocol_rows}}
+use Rattle.vote_laws.proofs.{VoteLists.version_rows, VoteRandoms.random_items_are, VoteRows.{authority, flag_rows}}
+use Rattle.vote_laws.proofs.VoteRows.{footer, kind_rows, preamble, time_rows}
 
 -- the items of its certificate, of its entries and of its footer
 abbrev pub in_cert : VoteFacts → List VoteEntry

@@ -1,32 +1,21 @@
 -- What is said by an item of a vote that was written and is read.
-use Rattle.std.proofs.Common.{◌≡◌, ℕ, List, Option, Some, None, refl, sym, ap, subst, ◌∙◌}
-use Rattle.std.specs.Prelude.{IfSome, option_map}
+use Rattle.std.{proofs.Common.{◌≡◌, ℕ, List, Option, Some, None, refl, sym, ap, subst, ◌∙◌}, specs.Prelude.IfSome}
+use Rattle.std.specs.Prelude.{option_map}
 use Rattle.item_terms.specs.Words.{words_of}
-use Rattle.dir_values.specs.FlagSets.{as_set, set_text}
-use Rattle.frame_terms.specs.Rows.{row}
-use Rattle.frame_terms.specs.declared.document.Taken.{Taken}
+use Rattle.dir_values.specs.{FlagSets.{as_set, set_text}, Numbers.{numbers_in, numbers_text}}
+use Rattle.frame_terms.specs.{Rows.row, declared.{document.Taken.Taken, row.Count.TheVariants.{One, Optional}}}
 use Rattle.frame_terms.specs.declared.keyword.Keyword.TheVariants as the
-use Rattle.frame_terms.specs.declared.row.Count.TheVariants.{One, Optional}
-use Rattle.frame_values.specs.Parts.{part}
-use Rattle.frame_values.specs.Values.{item_at, text_if, text_in}
-use Rattle.frame_values.specs.declared.values.Value.{Value}
-use Rattle.frame_laws.proofs.ReadRows.{IsRead, item_of_row}
-use Rattle.frame_laws.proofs.RowValues.{text_entry, text_if_said, text_said}
-use Rattle.frame_laws.proofs.SaidRows.{row_once}
-use Rattle.frame_laws.proofs.StandingParts.{rest_part, spelled}
-use Rattle.dir_values.specs.Numbers.{numbers_in, numbers_text}
-use Rattle.group_laws.proofs.WrittenDelays.{as_set-text}
-use Rattle.group_laws.proofs.TimeRows.{delays_row}
-use Rattle.vote_terms.specs.declared.facts.SignatureFacts.{SignatureFacts}
-use Rattle.vote_terms.specs.declared.facts.VoteFacts.{VoteFacts}
-use Rattle.vote_doc.specs.Facts.{signature_facts}
-use Rattle.vote_doc.specs.Saying.{delays_in, signature_in, source_in}
+use Rattle.frame_values.specs.{Parts.part, Values.{item_at, text_if, text_in}, declared.values.Value.Value}
+use Rattle.frame_laws.proofs.{ReadRows.{IsRead, item_of_row}, RowValues.{text_entry, text_if_said, text_said}}
+use Rattle.frame_laws.proofs.{SaidRows.row_once, StandingParts.{rest_part, spelled}}
+use Rattle.group_laws.proofs.{WrittenDelays.as_set-text, TimeRows.delays_row}
+use Rattle.vote_terms.specs.declared.facts.{SignatureFacts.SignatureFacts, VoteFacts.VoteFacts}
+use Rattle.vote_doc.specs.{Facts.signature_facts, Saying.{delays_in, signature_in, source_in}}
 use Rattle.vote_frame.specs.declared.frame.VoteKind.TheVariants as kind
 use Rattle.vote_frame.specs.declared.frame.VoteValue.{VoteValue}
 use Rattle.vote_frame.specs.declared.frame.VoteValue.TheVariants as own
-use Rattle.vote_laws.specs.Again.{AreFlags, AreMethods}
-use Rattle.vote_laws.proofs.VoteItems.{VoteTaken, methods_if, signature_entry, signature_row, source_entry}
-use Rattle.vote_laws.proofs.WrittenSources.{SourceSays, source_stands}
+use Rattle.vote_laws.{specs.Again.{AreFlags, AreMethods}, proofs.VoteItems.{VoteTaken, methods_if, signature_entry}}
+use Rattle.vote_laws.proofs.{VoteItems.{signature_row, source_entry}, WrittenSources.{SourceSays, source_stands}}
 use Rattle.vote_laws.proofs.WrittenValues.{algorithm_of-name, numbers_in-text}
 
 -- the methods

@@ -1,33 +1,23 @@
 -- Of a vote that was written and is read, the signed part is that of its text.
 use Rattle.std.proofs.Common.{◌≡◌, ℕ, ◌+◌, ◌-◌, ◌^◌, ◌≤◌, List, [], ◌∷◌, ◌++◌, length, take, refl, sym, ap, ◌∙◌}
-use Rattle.std.proofs.Common.{append_assoc, arith}
+use Rattle.std.proofs.{Common.{append_assoc, arith}, Math.Seq.take-append_seam, lemmas.List.{length-append, map-append}}
 use Rattle.std.specs.Prelude.{codes, map, min, slice_range}
-use Rattle.std.proofs.Math.Seq.{take-append_seam}
-use Rattle.std.proofs.lemmas.List.{length-append, map-append}
 use Rattle.dir_bytes.specs.FieldTexts.{hex_text}
-use Rattle.dirdoc_grammar.specs.Bodies.{object_text}
-use Rattle.dirdoc_grammar.specs.Writing.{AreWritable, NewItem, item_text, items_text}
+use Rattle.dirdoc_grammar.specs.{Bodies.object_text, Writing.{AreWritable, NewItem, item_text, items_text}}
 use Rattle.frame_terms.specs.Keywords.{same}
 use Rattle.frame_values.proofs.ItemsTexts.{sections}
-use Rattle.frame_laws.proofs.Entries.{item_of}
-use Rattle.frame_laws.proofs.LastRows.{last_item}
-use Rattle.frame_laws.proofs.Places.{after_all-append}
-use Rattle.frame_laws.proofs.Sections.{end_of, entries_in}
-use Rattle.frame_laws.proofs.WrittenRows.{ends_with_text, from_place}
+use Rattle.frame_laws.proofs.{Entries.item_of, LastRows.last_item, Places.after_all-append, Sections.end_of}
+use Rattle.frame_laws.proofs.{Sections.entries_in, WrittenRows.{ends_with_text, from_place}}
 use Rattle.group_laws.proofs.WrittenSignatures.{signed_end_first, signer_some}
-use Rattle.vote_terms.specs.declared.facts.SignatureFacts.{SignatureFacts}
-use Rattle.vote_terms.specs.declared.facts.VoteFacts.{VoteFacts}
+use Rattle.vote_terms.specs.{declared.facts.{SignatureFacts.SignatureFacts, VoteFacts.VoteFacts}, Votes.max_vote}
 use Rattle.vote_text.specs.Texts.{algorithm_text, signer_text, vote_items, vote_text}
 use Rattle.vote_doc.specs.Heads.{signed_to}
-use Rattle.vote_terms.specs.Votes.{max_vote}
 use Rattle.vote_frame.specs.Tables.{vote_tables}
-use Rattle.vote_laws.specs.Again.{IsInRange, signed_text, unsigned_items}
-use Rattle.vote_laws.proofs.VoteItems.{VoteEntry, signature_entry, signature_row}
-use Rattle.vote_laws.proofs.VotePlaces.{authority_place, certificate_place, entries_place, footer_place, vote_kept}
-use Rattle.vote_laws.proofs.VoteRead.{text_vote}
-use Rattle.vote_laws.proofs.VoteRows.{authority, footer, preamble}
-use Rattle.vote_laws.proofs.VoteSame.{in_cert, in_list, unsigned_same, vote_same}
-use Rattle.vote_laws.proofs.VoteWritten.{footer_ended}
+use Rattle.vote_laws.{specs.Again.{IsInRange, signed_text, unsigned_items}, proofs.VoteItems.VoteEntry}
+use Rattle.vote_laws.proofs.{VoteItems.{signature_entry, signature_row}, VotePlaces.authority_place}
+use Rattle.vote_laws.proofs.{VotePlaces.{certificate_place, entries_place, footer_place, vote_kept}, VoteRead.text_vote}
+use Rattle.vote_laws.proofs.{VoteRows.{authority, footer, preamble}, VoteSame.{in_cert, in_list, unsigned_same}}
+use Rattle.vote_laws.proofs.{VoteSame.vote_same, VoteWritten.footer_ended}
 
 -- the items before the signature
 abbrev unsigned_entries : VoteFacts → List VoteEntry

@@ -1,45 +1,27 @@
 -- The entries of a vote that was written, and its footer, are read behind the section of its authority.
-use Rattle.std.proofs.Common.{◌≡◌, ℕ, List, [], ◌∷◌, ◌++◌, Option, None, Result, Ok, refl, ap, ◌∙◌}
-use Rattle.std.specs.Prelude.{map}
-use Rattle.item_terms.specs.Items.{Item}
-use Rattle.item_terms.specs.declared.fault.DocFault.{DocFault}
+use Rattle.std.{proofs.Common.{◌≡◌, ℕ, List, [], ◌∷◌, ◌++◌, Option, None, Result, Ok, refl, ap, ◌∙◌}, specs.Prelude.map}
+use Rattle.item_terms.specs.{Items.Item, declared.fault.DocFault.DocFault}
 use Rattle.dirdoc_grammar.specs.Writing.{all_written}
-use Rattle.frame_terms.specs.Documents.{group, read_items}
-use Rattle.frame_terms.specs.Rows.{row}
-use Rattle.frame_terms.specs.Sections.{lacking_keyword}
-use Rattle.frame_terms.specs.declared.document.Group.{Group}
-use Rattle.frame_terms.specs.declared.fault.ReadRefusal.{ReadRefusal}
+use Rattle.frame_terms.specs.{Documents.{group, read_items}, Rows.row, Sections.lacking_keyword}
+use Rattle.frame_terms.specs.declared.{document.Group.Group, fault.ReadRefusal.ReadRefusal, row.Count.TheVariants.One}
 use Rattle.frame_terms.specs.declared.keyword.Keyword.TheVariants as the
-use Rattle.frame_terms.specs.declared.row.Count.TheVariants.{One}
 use Rattle.frame_values.specs.declared.values.Value.{Value}
-use Rattle.frame_laws.proofs.Ends.{end_read}
-use Rattle.frame_laws.proofs.Entries.{item_of}
-use Rattle.frame_laws.proofs.Following.{MayFollow, groups_of, last_first, last_name, last_others, last_whole, onto_all}
-use Rattle.frame_laws.proofs.Following.{sections_read}
-use Rattle.frame_laws.proofs.Groups.{groups_in, onto_all-last, onto_all-ok}
-use Rattle.frame_laws.proofs.Passing.{notes_passing}
-use Rattle.frame_laws.proofs.Places.{both_written}
+use Rattle.frame_laws.proofs.{Ends.end_read, Entries.item_of, Following.{MayFollow, groups_of, last_first, last_name}}
+use Rattle.frame_laws.proofs.{Following.{last_others, last_whole, onto_all, sections_read}, Groups.groups_in}
+use Rattle.frame_laws.proofs.{Groups.{onto_all-last, onto_all-ok}, Passing.notes_passing, Places.both_written}
 use Rattle.frame_laws.proofs.Steps.{opening}
 use Rattle.relay_entries.specs.Listing.{none_listed}
-use Rattle.vote_terms.specs.declared.entry.EntryFacts.{EntryFacts}
-use Rattle.vote_terms.specs.declared.facts.VoteFacts.{VoteFacts}
-use Rattle.vote_frame.specs.Tables.{vote_tables}
-use Rattle.vote_frame.specs.declared.across.Across.{Across}
+use Rattle.vote_terms.specs.declared.{entry.EntryFacts.EntryFacts, facts.VoteFacts.VoteFacts}
+use Rattle.vote_frame.specs.{Tables.vote_tables, declared.{across.Across.Across, frame.VoteSection.VoteSection}}
+use Rattle.vote_frame.specs.declared.frame.{VoteSection.TheVariants.{Authority, Entry, Footer}, VoteValue.VoteValue}
 use Rattle.vote_frame.specs.declared.frame.VoteKind.TheVariants as kind
-use Rattle.vote_frame.specs.declared.frame.VoteSection.{VoteSection}
-use Rattle.vote_frame.specs.declared.frame.VoteSection.TheVariants.{Authority, Entry, Footer}
-use Rattle.vote_frame.specs.declared.frame.VoteValue.{VoteValue}
-use Rattle.vote_laws.specs.Again.{AreEntriesInRange, IsSignatureInRange}
-use Rattle.vote_laws.proofs.EntryNotes.{all_listed, all_may, entries_next, knowing}
-use Rattle.vote_laws.proofs.EntryRows.{entry_section, first_follows, footer_after}
-use Rattle.vote_laws.proofs.Heard.{forgotten, is_quiet}
-use Rattle.vote_laws.proofs.VoteItems.{VoteTaken, signature_entry, signature_row, suits_nothing}
-use Rattle.vote_laws.proofs.VotePlaces.{VoteDocument, end_from, footer_from, footer_taken, section_quiet}
-use Rattle.vote_laws.proofs.VotePlaces.{section_to_quiet, sections_of}
-use Rattle.vote_laws.proofs.VoteRandoms.{with_randoms}
-use Rattle.vote_laws.proofs.VoteRows.{footer}
-use Rattle.vote_laws.proofs.VoteSame.{footer_entries, in_list}
-use Rattle.vote_laws.proofs.VoteWritten.{footer_ended, footer_follows}
+use Rattle.vote_laws.{specs.Again.{AreEntriesInRange, IsSignatureInRange}, proofs.EntryNotes.{all_listed, all_may}}
+use Rattle.vote_laws.proofs.{EntryNotes.{entries_next, knowing}, EntryRows.{entry_section, first_follows, footer_after}}
+use Rattle.vote_laws.proofs.{Heard.{forgotten, is_quiet}, VoteItems.{VoteTaken, signature_entry, signature_row}}
+use Rattle.vote_laws.proofs.{VoteItems.suits_nothing, VotePlaces.{VoteDocument, end_from, footer_from, footer_taken}}
+use Rattle.vote_laws.proofs.{VotePlaces.{section_quiet, section_to_quiet, sections_of}, VoteRandoms.with_randoms}
+use Rattle.vote_laws.proofs.{VoteRows.footer, VoteSame.{footer_entries, in_list}, VoteWritten.footer_ended}
+use Rattle.vote_laws.proofs.VoteWritten.{footer_follows}
 
 -- the footer may follow the section of the authority and any number of entries
 after_entries : (list : List EntryFacts)

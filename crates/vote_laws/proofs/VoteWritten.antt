@@ -1,28 +1,20 @@
 -- The sections of a vote that was written suit their tables, and may follow each other.
 use Rattle.std.proofs.Common.{◌≡◌, true, [], ◌∷◌, None, refl}
-use Rattle.frame_terms.specs.Keywords.{same}
-use Rattle.frame_terms.specs.Rows.{row}
+use Rattle.frame_terms.specs.{Keywords.same, Rows.row, declared.row.Count.TheVariants.One}
 use Rattle.frame_terms.specs.declared.keyword.Keyword.TheVariants as the
-use Rattle.frame_terms.specs.declared.row.Count.TheVariants.{One}
-use Rattle.frame_laws.proofs.Both.{both_hold}
-use Rattle.frame_laws.proofs.Ends.{IsEnded}
-use Rattle.frame_laws.proofs.Following.{IsFirst, MayFollow, opener_follows}
-use Rattle.frame_laws.proofs.Sections.{IsWritten}
-use Rattle.frame_laws.proofs.TableRows.{are_plain}
+use Rattle.frame_laws.proofs.{Both.both_hold, Ends.IsEnded, Following.{IsFirst, MayFollow, opener_follows}}
+use Rattle.frame_laws.proofs.{Sections.IsWritten, TableRows.are_plain}
 use Rattle.authority_certs.specs.declared.cert.Cert.{Cert}
 use Rattle.certificate_laws.proofs.CertRows.{HasCertificates, certificate_rows}
-use Rattle.vote_terms.specs.declared.facts.SignatureFacts.{SignatureFacts}
-use Rattle.vote_terms.specs.declared.facts.VoteFacts.{VoteFacts}
+use Rattle.vote_terms.specs.declared.facts.{SignatureFacts.SignatureFacts, VoteFacts.VoteFacts}
 use Rattle.value_groups.specs.declared.line.RandomLine.TheVariants as line
-use Rattle.vote_frame.specs.Tables.{vote_tables}
+use Rattle.vote_frame.specs.{Tables.vote_tables, declared.frame.VoteSection.TheVariants.{Authority, Certificate}}
+use Rattle.vote_frame.specs.declared.frame.VoteSection.TheVariants.{Footer, Preamble}
 use Rattle.vote_frame.specs.declared.frame.VoteKind.TheVariants as kind
-use Rattle.vote_frame.specs.declared.frame.VoteSection.TheVariants.{Authority, Certificate, Footer, Preamble}
-use Rattle.vote_laws.specs.Again.{HasValuesInRange, IsSignatureInRange}
-use Rattle.vote_laws.proofs.VoteLists.{both_said}
+use Rattle.vote_laws.{specs.Again.{HasValuesInRange, IsSignatureInRange}, proofs.VoteLists.both_said}
 use Rattle.vote_laws.proofs.VoteRows.{authority, certificate_row, footer, no_randoms, preamble, preamble_rows}
-use Rattle.vote_laws.proofs.VoteRows.{preamble_said}
-use Rattle.vote_laws.proofs.VoteItems.{said_rest_if, signature_entry, signature_row, suits_signature}
-use Rattle.vote_laws.proofs.VoteRandoms.{said_random}
+use Rattle.vote_laws.proofs.{VoteRows.preamble_said, VoteItems.{said_rest_if, signature_entry, signature_row}}
+use Rattle.vote_laws.proofs.{VoteItems.suits_signature, VoteRandoms.said_random}
 
 -- ---- the preamble
 

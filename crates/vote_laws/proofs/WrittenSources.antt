@@ -1,19 +1,13 @@
 -- Who the authority of a vote is that was written: its line is read again, and where its words stand.
-use Rattle.std.proofs.Common.{◌≡◌, ℕ, List, ◌∷◌, ◌++◌, Ok, sym, ap, subst, ◌∙◌, append_assoc}
-use Rattle.std.specs.Fmt.{decimal}
+use Rattle.std.{proofs.Common.{◌≡◌, ℕ, List, ◌∷◌, ◌++◌, Ok, sym, ap, subst, ◌∙◌, append_assoc}, specs.Fmt.decimal}
 use Rattle.dir_bytes.specs.FieldTexts.{address_text, hex_text}
 use Rattle.dirdoc_grammar.specs.Writing.{written}
 use Rattle.frame_terms.specs.declared.keyword.Keyword.{Keyword}
-use Rattle.frame_values.specs.Fields.{span}
-use Rattle.frame_values.specs.Items.{bare}
-use Rattle.frame_values.specs.Lines.{source_of}
-use Rattle.frame_values.specs.Parts.{part}
-use Rattle.frame_values.specs.declared.found.DirSource.{DirSource}
+use Rattle.frame_values.specs.{Fields.span, Items.bare, Lines.source_of, Parts.part, declared.found.DirSource.DirSource}
 use Rattle.frame_laws.proofs.WrittenItems.{start_of}
 use Rattle.group_laws.specs.LineAgain as line
-use Rattle.group_laws.specs.LineAgain.{IsSourceInRange}
+use Rattle.group_laws.{specs.LineAgain.IsSourceInRange, proofs.SourceRows.{SourceIs, source_back}}
 use Rattle.group_laws.proofs.WrittenSources as sources
-use Rattle.group_laws.proofs.SourceRows.{SourceIs, source_back}
 use Rattle.vote_terms.specs.declared.facts.VoteFacts.{VoteFacts}
 use Rattle.vote_text.specs.Texts.{source_text}
 use Rattle.vote_laws.specs.Again.{HasValuesInRange}

@@ -1,29 +1,17 @@
 -- What an item of a vote says that was written and is read again: the value that it was written for.
-use Rattle.std.proofs.Common.{◌≡◌, ℕ, ◌+◌, ◌≤◌, List, [], ◌∷◌, ◌++◌, cond, length, Option, Some, None}
-use Rattle.std.proofs.Common.{Ok, refl, ap, ◌∙◌, arith}
-use Rattle.std.specs.Prelude.{All, map, codes, is_none, unwrap_or, option_map}
-use Rattle.std.specs.List.{find}
-use Rattle.std.specs.Fmt.{decimal}
-use Rattle.std.proofs.lemmas.List.{length-map}
-use Rattle.std.proofs.lemmas.List.Elements.{All-head, All-tail}
-use Rattle.dir_bytes.specs.FieldTexts.{hex_text}
-use Rattle.dir_bytes.specs.Fields.{hex}
-use Rattle.dir_bytes.proofs.ReadAgain.{number-decimal}
-use Rattle.dir_values.specs.Arguments.{Argument}
-use Rattle.dir_values.specs.declared.algorithm.Algorithm.{Algorithm}
-use Rattle.dir_values.specs.declared.algorithm.Algorithm.TheVariants.{Sha1, Sha256}
-use Rattle.dir_values.specs.declared.digest.Digest1.{Digest1}
-use Rattle.dir_values.specs.declared.digest.Fingerprint.{Fingerprint as Identity}
+use Rattle.std.proofs.Common.{◌≡◌, ℕ, ◌+◌, ◌≤◌, List, [], ◌∷◌, ◌++◌, cond, length, Option, Some, None, Ok, refl, ap}
+use Rattle.std.proofs.{Common.{◌∙◌, arith}, lemmas.List.{length-map, Elements.{All-head, All-tail}}}
+use Rattle.std.specs.{Prelude.{All, map, codes, is_none, unwrap_or, option_map}, List.find, Fmt.decimal}
+use Rattle.dir_bytes.{specs.{FieldTexts.hex_text, Fields.hex}, proofs.ReadAgain.number-decimal}
+use Rattle.dir_values.specs.{Arguments.Argument, declared.algorithm.Algorithm.{Algorithm, TheVariants.{Sha1, Sha256}}}
+use Rattle.dir_values.specs.declared.digest.{Digest1.Digest1, Fingerprint.Fingerprint as Identity}
+use Rattle.dir_values.specs.{Digests.fingerprint, Numbers.{wrong_number, number_of, number_in, numbers_in}}
+use Rattle.dir_values.specs.Numbers.{numbers_text}
 use Rattle.dirdoc_grammar.specs.Writing.{written}
 use Rattle.frame_terms.specs.declared.keyword.Keyword.{Keyword}
-use Rattle.frame_values.specs.Arguments.{arguments_of}
-use Rattle.dir_values.specs.Digests.{fingerprint}
-use Rattle.dir_values.specs.Numbers.{wrong_number, number_of, number_in, numbers_in, numbers_text}
-use Rattle.frame_values.specs.Lines.{numbers_of, rest_unless}
-use Rattle.frame_values.specs.Ranges.{AreTwenty}
-use Rattle.frame_values.specs.Signatures.{signature_of}
-use Rattle.frame_values.specs.declared.found.VoteSignature.{VoteSignature}
-use Rattle.frame_values.specs.Items.{bare, with_object}
+use Rattle.frame_values.specs.{Arguments.arguments_of, Lines.{numbers_of, rest_unless}, Ranges.AreTwenty}
+use Rattle.frame_values.specs.{Signatures.signature_of, declared.found.VoteSignature.VoteSignature, Items.bare}
+use Rattle.frame_values.specs.Items.{with_object}
 use Rattle.frame_laws.proofs.Words.{arguments_of_words, length-arguments_at, placed, words_of-join, words_of_numbers}
 use Rattle.frame_laws.proofs.WrittenItems.{lines_at, rest_at, start_of}
 use Rattle.group_laws.proofs.SignatureLines.{signature_again}

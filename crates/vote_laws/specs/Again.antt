@@ -1,32 +1,22 @@
 -- A vote that was written is read again (dir-spec, "Vote and consensus status document formats").
-use Rattle.std.specs.Prelude.{◌≡◌, ℕ, ◌+◌, ◌≤◌, ◌<◌, ◌^◌, true, List, [], ◌∷◌, ◌++◌, length, All, AllPairs, IfSome}
-use Rattle.std.specs.Prelude.{Ok, codes, ℤ}
+use Rattle.std.specs.Prelude.{◌≡◌, ℕ, ◌+◌, ◌≤◌, ◌<◌, ◌^◌, true, List, [], ◌∷◌, ◌++◌, length, All, AllPairs, IfSome, Ok}
+use Rattle.std.specs.Prelude.{codes, ℤ}
 use Rattle.dir_bytes.specs.Causes.{last_moment}
-use Rattle.dir_values.specs.FlagSets.{Ascend, is_name}
-use Rattle.dirdoc_grammar.specs.Writers.{is_argument}
-use Rattle.dirdoc_grammar.specs.Writing.{AreWritable, NewItem, items_text}
+use Rattle.dir_values.specs.{FlagSets.{Ascend, is_name}, Names.is_nickname}
+use Rattle.dirdoc_grammar.specs.{Writers.is_argument, Writing.{AreWritable, NewItem, items_text}}
 use Rattle.frame_terms.specs.declared.keyword.Keyword.TheVariants as the
-use Rattle.frame_values.specs.Items.{bare}
-use Rattle.dir_values.specs.Names.{is_nickname}
-use Rattle.frame_values.specs.Ranges.{AreTwenty}
+use Rattle.frame_values.specs.{Items.bare, Ranges.AreTwenty}
 use Rattle.certificate_laws.specs.Again.{SaysInRange, as_written}
-use Rattle.authority_certs.specs.Texts.{cert_items, cert_text}
-use Rattle.authority_certs.specs.declared.cert.Cert.{Cert}
+use Rattle.authority_certs.specs.{Texts.{cert_items, cert_text}, declared.cert.Cert.Cert}
 use Rattle.group_laws.specs.Ranges.{AreBandwidthsInRange, AreMethodsInRange, AreThirtyTwo, IsAddressInRange}
-use Rattle.group_laws.specs.Ranges.{IsOpinionInRange, IsRelayInRange}
-use Rattle.group_laws.specs.LineAgain.{IsRandomInRange}
+use Rattle.group_laws.specs.{Ranges.{IsOpinionInRange, IsRelayInRange}, LineAgain.IsRandomInRange}
 use Rattle.value_laws.specs.Ranges.{AreParamsInRange, AreProtocolsInRange, AreVersionsInRange}
 use Rattle.list_values.specs.declared.named.Named.{Named}
 use Rattle.relay_entries.specs.declared.said.EdOpinion.TheVariants as opinion
-use Rattle.vote_terms.specs.Entries.{Ascending}
-use Rattle.vote_terms.specs.Votes.{ReadVote, max_vote}
-use Rattle.vote_terms.specs.declared.entry.EntryFacts.{EntryFacts}
-use Rattle.vote_terms.specs.declared.entry.MicroFacts.{MicroFacts}
-use Rattle.vote_terms.specs.declared.facts.SignatureFacts.{SignatureFacts}
-use Rattle.vote_terms.specs.declared.facts.VoteFacts.{VoteFacts}
-use Rattle.vote_terms.specs.declared.lists.VoteLists.{VoteLists}
-use Rattle.vote_text.specs.Entries.{entries_items}
-use Rattle.vote_text.specs.Texts.{authority_items, preamble_items, vote_items, vote_text}
+use Rattle.vote_terms.specs.{Entries.Ascending, Votes.{ReadVote, max_vote}, declared.entry.EntryFacts.EntryFacts}
+use Rattle.vote_terms.specs.declared.{entry.MicroFacts.MicroFacts, facts.SignatureFacts.SignatureFacts}
+use Rattle.vote_terms.specs.declared.{facts.VoteFacts.VoteFacts, lists.VoteLists.VoteLists}
+use Rattle.vote_text.specs.{Entries.entries_items, Texts.{authority_items, preamble_items, vote_items, vote_text}}
 use Rattle.vote_doc.specs.Reading.{vote_from}
 
 -- the consensus methods are at most 64 numbers of 32 bits

@@ -2,11 +2,9 @@
 -- consensus status document formats").
 use Rattle.std.specs.Prelude.{◌≡◌, ℕ, ◌+◌, ◌≤◌, ◌<◌, ◌^◌, List, ◌++◌, length, Ok}
 use Rattle.dirdoc_grammar.specs.Writing.{AreWritable}
-use Rattle.vote_terms.specs.Votes.{ReadVote, max_vote}
-use Rattle.vote_terms.specs.declared.facts.VoteFacts.{VoteFacts}
-use Rattle.vote_text.specs.Entries.{entries_items}
-use Rattle.vote_text.specs.Made.{made_signed, made_text}
-use Rattle.vote_text.specs.Texts.{authority_items, footer_items, preamble_items}
+use Rattle.vote_terms.specs.{Votes.{ReadVote, max_vote}, declared.facts.VoteFacts.VoteFacts}
+use Rattle.vote_text.specs.{Entries.entries_items, Made.{made_signed, made_text}, Texts.{authority_items, footer_items}}
+use Rattle.vote_text.specs.Texts.{preamble_items}
 use Rattle.vote_doc.specs.Reading.{vote_from}
 use Rattle.vote_frame.specs.Tables.{vote_tables}
 use Rattle.vote_frame.specs.declared.frame.VoteSection.TheVariants as section

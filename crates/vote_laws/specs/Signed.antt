@@ -4,8 +4,7 @@ use Rattle.std.specs.Prelude.{◌≡◌, ◌≢◌, ℕ, ◌+◌, ◌<◌, ◌^�
 use Rattle.sha1.specs.Sha1.{sha1}
 use Rattle.item_terms.specs.Items.{Item, items_of}
 use Rattle.dir_values.specs.declared.digest.Digest1.{Digest1}
-use Rattle.authority_certs.specs.declared.cert.Cert.{Cert}
-use Rattle.authority_certs.specs.Reading.{cert_of, max_cert}
+use Rattle.authority_certs.specs.{declared.cert.Cert.Cert, Reading.{cert_of, max_cert}}
 use Rattle.vote_terms.specs.Votes.{ReadVote, max_vote}
 use Rattle.vote_doc.specs.Reading.{vote_from}
 use Rattle.vote_laws.specs.Texts.{IsLineOf, text_before, text_through}

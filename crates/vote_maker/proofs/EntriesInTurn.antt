@@ -1,19 +1,14 @@
 -- The entries of relays, one relay after the other.
-use Rattle.std.proofs.Common.{◌≡◌, ℕ, suc, ◌+◌, ◌<◌, Bool, List, ◌∷◌, ◌++◌, length, get_or, drop}
-use Rattle.std.proofs.Common.{◌≤◌, sym, ap, ap₂, ◌∙◌, arith, append_assoc}
-use Rattle.std.proofs.lemmas.List.{append-nil, drop_all}
+use Rattle.std.proofs.Common.{◌≡◌, ℕ, suc, ◌+◌, ◌<◌, Bool, List, ◌∷◌, ◌++◌, length, get_or, drop, ◌≤◌, sym, ap, ap₂}
+use Rattle.std.proofs.{Common.{◌∙◌, arith, append_assoc}, lemmas.List.{append-nil, drop_all}}
 use Rattle.count_terms.specs.declared.newest.Newest.{Newest}
 use Rattle.descriptor_doc.specs.declared.descriptor.Descriptor.{Descriptor}
-use Rattle.flag_rules.specs.Relays.{ruled_relays}
-use Rattle.flag_rules.specs.declared.flags.Flags.{Flags}
-use Rattle.flag_rules.specs.declared.relay.RelayFacts.{RelayFacts}
+use Rattle.flag_rules.specs.{Relays.ruled_relays, declared.{flags.Flags.Flags, relay.RelayFacts.RelayFacts}}
 use Rattle.flag_rules.specs.declared.ruling.Ruling.{Ruling}
 use Rattle.vote_terms.specs.declared.entry.EntryFacts.{EntryFacts}
 use Rattle.vote_pool.specs.Kept.{signer_of}
-use Rattle.vote_maker.specs.Listings.{JudgedRelay, judged_relays}
-use Rattle.vote_maker.specs.Private.{AreAsMany, AreBetween, Keys, entries_from, entries_text, entry_if, is_listed}
-use Rattle.vote_maker.specs.Private.{keys_after}
-use Rattle.vote_maker.proofs.EntryTexts.{texts}
+use Rattle.vote_maker.specs.{Listings.{JudgedRelay, judged_relays}, Private.{AreAsMany, AreBetween, Keys, entries_from}}
+use Rattle.vote_maker.{specs.Private.{entries_text, entry_if, is_listed, keys_after}, proofs.EntryTexts.texts}
 use Rattle.vote_maker.proofs.Judged.{judged_at, judged_drop}
 
 module _ (newest : Newest) (ds : List Descriptor) (ks : List RelayFacts) (rs : List Ruling) (fs : List Flags) where

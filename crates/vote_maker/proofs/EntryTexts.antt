@@ -1,16 +1,12 @@
 -- The text of a vote in three parts, and of entries one after the other.
-use Rattle.std.proofs.Common.{◌≡◌, ◌∙◌, ℕ, ◌+◌, ◌-◌, List, [], ◌++◌, length, length-append, take, drop, sym, ap, append_assoc, arith}
-use Rattle.std.proofs.lemmas.Grind.{common_steps}
-use Rattle.std.proofs.lemmas.List.Concat.{flat_map-append}
+use Rattle.std.proofs.Common.{◌≡◌, ◌∙◌, ℕ, ◌+◌, ◌-◌, List, [], ◌++◌, length, length-append, take, drop, sym, ap}
+use Rattle.std.proofs.{Common.{append_assoc, arith}, lemmas.{Grind.common_steps, List.Concat.flat_map-append}}
 use Rattle.std.specs.Prelude.{codes}
 use Rattle.dirdoc_grammar.specs.Writing.{NewItem, item_text, items_text}
 use Rattle.frame_terms.specs.declared.keyword.Keyword.TheVariants as the
-use Rattle.frame_values.specs.Items.{bare}
-use Rattle.frame_values.proofs.ItemsTexts.{sections}
-use Rattle.vote_terms.specs.declared.entry.EntryFacts.{EntryFacts}
-use Rattle.vote_terms.specs.declared.facts.VoteFacts.{VoteFacts}
-use Rattle.vote_text.specs.Entries.{entries_items, entry_items}
-use Rattle.vote_text.specs.Made.{made_signed}
+use Rattle.frame_values.{specs.Items.bare, proofs.ItemsTexts.sections}
+use Rattle.vote_terms.specs.declared.{entry.EntryFacts.EntryFacts, facts.VoteFacts.VoteFacts}
+use Rattle.vote_text.specs.{Entries.{entries_items, entry_items}, Made.made_signed}
 use Rattle.vote_maker.specs.Private.{back_text, entries_text, front_text}
 
 -- ---- entries

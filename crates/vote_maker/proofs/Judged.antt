@@ -1,22 +1,14 @@
 -- Relays with what is known, ruled and assigned: one by one, in order, and as many as there are.
-use Rattle.std.proofs.Common.{◌≡◌, ℕ, zero, suc, ◌<◌, ◌≤◌, true, List, [], ◌∷◌, length, get_or, drop, filter}
-use Rattle.std.proofs.Common.{refl, ap, ◌∙◌, arith}
+use Rattle.std.proofs.Common.{◌≡◌, ℕ, zero, suc, ◌<◌, ◌≤◌, true, List, [], ◌∷◌, length, get_or, drop, filter, refl, ap}
+use Rattle.std.proofs.{Common.{◌∙◌, arith}, lemmas.List.{length-map, Elements.{All-head, All-tail, All-cons}}}
 use Rattle.std.specs.Prelude.{All}
-use Rattle.std.proofs.lemmas.List.{length-map}
-use Rattle.std.proofs.lemmas.List.Elements.{All-head, All-tail, All-cons}
-use Rattle.dir_values.proofs.Orders.{AllPairs-cons, AllPairs-head, AllPairs-tail}
-use Rattle.dir_values.specs.Digests.{identity_below}
+use Rattle.dir_values.{proofs.Orders.{AllPairs-cons, AllPairs-head, AllPairs-tail}, specs.Digests.identity_below}
 use Rattle.descriptor_doc.specs.declared.descriptor.Descriptor.{Descriptor}
-use Rattle.flag_rules.specs.Flags.{flags_of, flags_with, thresholds_of}
-use Rattle.flag_rules.specs.Relays.{ruled_relays}
-use Rattle.flag_rules.specs.Standings.{is_active, standing_of, standings_of}
-use Rattle.flag_rules.specs.declared.flags.Flags.{Flags}
-use Rattle.flag_rules.specs.declared.relay.RelayFacts.{RelayFacts}
-use Rattle.flag_rules.specs.declared.relay.RuledRelay.{RuledRelay}
-use Rattle.flag_rules.specs.declared.ruling.Ruling.{Ruling}
+use Rattle.flag_rules.specs.{Flags.{flags_of, flags_with, thresholds_of}, Relays.ruled_relays, Standings.is_active}
+use Rattle.flag_rules.specs.{Standings.{standing_of, standings_of}, declared.flags.Flags.Flags}
+use Rattle.flag_rules.specs.declared.{relay.{RelayFacts.RelayFacts, RuledRelay.RuledRelay}, ruling.Ruling.Ruling}
 use Rattle.vote_pool.specs.Pools.{DescriptorsAscend}
-use Rattle.vote_maker.specs.Listings.{JudgedRelay, judged_relays}
-use Rattle.vote_maker.proofs.Listed.{RelaysAscend}
+use Rattle.vote_maker.{specs.Listings.{JudgedRelay, judged_relays}, proofs.Listed.RelaysAscend}
 
 -- ---- one by one
 

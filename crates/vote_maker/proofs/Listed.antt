@@ -1,27 +1,22 @@
 -- The entries that are made one after the other are those of the relays that have one: of relays in order, those of
 -- smaller identities stand before each.
-use Rattle.std.proofs.Common.{◌≡◌, ℕ, Bool, true, false, List, [], ◌∷◌, ◌++◌, map, filter, get_or}
-use Rattle.std.proofs.Common.{Option, Some, None, refl, sym, ap, ap₂, ◌∙◌, arith, append_assoc}
-use Rattle.std.specs.Prelude.{All, AllPairs, not, ◌&&◌, ◌||◌, if◌then◌else◌}
-use Rattle.std.specs.List.{list_any}
-use Rattle.std.specs.FinSet as set
-use Rattle.std.specs.Cmp.Lexicographic.{slice_cmp, texts_ties, bytes_decides}
-use Rattle.std.specs.Ordering.{eq_by_cmp, nat_cmp}
+use Rattle.std.proofs.Common.{◌≡◌, ℕ, Bool, true, false, List, [], ◌∷◌, ◌++◌, map, filter, get_or, Option, Some, None}
+use Rattle.std.proofs.{Common.{refl, sym, ap, ap₂, ◌∙◌, arith, append_assoc}, lemmas.Bool.true≢false}
+use Rattle.std.proofs.lemmas.{Bool.false_from_ne_true, Cmp.nat_list_cmp_total, List.Elements.{All-head, All-tail}}
+use Rattle.std.proofs.lemmas.List.{Elements.{All-cons, All-append}, Folds.{list_any-append, list_any_none}}
+use Rattle.std.specs.{Prelude.{All, AllPairs, not, ◌&&◌, ◌||◌, if◌then◌else◌}, List.list_any}
+use Rattle.std.specs.{Cmp.Lexicographic.{slice_cmp, texts_ties, bytes_decides}, Ordering.{eq_by_cmp, nat_cmp}}
 use Rattle.std.specs.Str.{bytes_eq}
-use Rattle.std.proofs.lemmas.Bool.{true≢false, false_from_ne_true}
-use Rattle.std.proofs.lemmas.Cmp.{nat_list_cmp_total}
-use Rattle.std.proofs.lemmas.List.Elements.{All-head, All-tail, All-cons, All-append}
-use Rattle.std.proofs.lemmas.List.Folds.{list_any-append, list_any_none}
+use Rattle.std.specs.FinSet as set
 use Rattle.count_terms.specs.declared.newest.Newest.{Newest}
-use Rattle.dir_values.proofs.Orders.{below-trans, apart, AllPairs-head, AllPairs-tail}
-use Rattle.dir_values.specs.Digests.{bytes_below, identity_below}
+use Rattle.dir_values.{proofs.Orders.{below-trans, apart, AllPairs-head, AllPairs-tail}, specs.Digests.bytes_below}
+use Rattle.dir_values.specs.Digests.{identity_below}
 use Rattle.descriptor_frame.specs.declared.certificate.EdCert.{EdCert}
 use Rattle.flag_rules.specs.Rulings.{is_reject}
 use Rattle.vote_terms.specs.declared.entry.EntryFacts.{EntryFacts}
 use Rattle.vote_pool.specs.Kept.{signer_of}
 use Rattle.vote_maker.specs.Listings.{JudgedRelay, entry_of_judged, goes_before, has_entry, made_entries, same_key}
-use Rattle.vote_maker.specs.Listings.{takes_key}
-use Rattle.vote_maker.specs.Private.{Keys, entries_from, is_free, is_listed, keys_after}
+use Rattle.vote_maker.specs.{Listings.takes_key, Private.{Keys, entries_from, is_free, is_listed, keys_after}}
 
 -- ---- the keys of those before
 

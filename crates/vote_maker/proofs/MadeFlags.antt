@@ -1,7 +1,6 @@
 -- The names of all flags.
 use Rattle.std.proofs.Common.{◌≡◌, true, refl}
-use Rattle.flag_rules.specs.Names.{names_of}
-use Rattle.flag_rules.specs.declared.flags.Flags.{Flags}
+use Rattle.flag_rules.specs.{Names.names_of, declared.flags.Flags.Flags}
 use Rattle.vote_maker.specs.Made.{made_flags}
 
 -- a relay with every flag

@@ -1,21 +1,14 @@
 -- What is made of a basis and signed is a made vote, and why there is none.
-use Rattle.std.proofs.Common.{◌≡◌, ℕ, ◌≤◌, List, length, refl, sym, subst, ⊎_elim, inl, inr}
-use Rattle.std.proofs.Common.{Result, Ok, Err, Bool}
+use Rattle.std.proofs.Common.{◌≡◌, ℕ, ◌≤◌, List, length, refl, sym, subst, ⊎_elim, inl, inr, Result, Ok, Err, Bool}
 use Rattle.std.specs.Prelude.{IfErr}
-use Rattle.key_port.specs.Answers.{Relation, Rules, Steps}
-use Rattle.key_port.specs.Signing.{SignerSteps}
-use Rattle.key_port.specs.declared.signer.SignAnswer.{SignAnswer}
-use Rattle.authority_certs.specs.Checks.{Asks, Checks, IsCertified}
-use Rattle.authority_certs.specs.declared.cert.Cert.{Cert}
-use Rattle.authority_certs.specs.declared.checking.CertAnswer.{CertAnswer}
-use Rattle.authority_certs.specs.declared.checking.CertAnswer.TheVariants.{Checked}
-use Rattle.flag_rules.specs.declared.relay.RelayFacts.{RelayFacts}
-use Rattle.flag_rules.specs.declared.ruling.Ruling.{Ruling}
-use Rattle.vote_maker.specs.Made.{Basis}
-use Rattle.vote_maker.specs.Making.{AsksForVote, IsMade, IsTextOf, RefusesToMake, certificate_answer}
-use Rattle.vote_terms.specs.Votes.{max_vote}
+use Rattle.key_port.specs.{Answers.{Relation, Rules, Steps}, Signing.SignerSteps, declared.signer.SignAnswer.SignAnswer}
+use Rattle.authority_certs.specs.{Checks.{Asks, Checks, IsCertified}, declared.cert.Cert.Cert}
+use Rattle.authority_certs.specs.declared.checking.CertAnswer.{CertAnswer, TheVariants.Checked}
+use Rattle.flag_rules.specs.declared.{relay.RelayFacts.RelayFacts, ruling.Ruling.Ruling}
+use Rattle.vote_maker.specs.{Made.Basis, Making.{AsksForVote, IsMade, IsTextOf, RefusesToMake, certificate_answer}}
 use Rattle.vote_maker.specs.Private.{AsksFor, IsSignedPart, IsSignedText, RefusesToSign}
 use Rattle.vote_maker.specs.declared.refusal.MakeRefusal.{MakeRefusal}
+use Rattle.vote_terms.specs.Votes.{max_vote}
 use Rattle.vote_maker.specs.declared.refusal.MakeRefusal.TheVariants as refusal
 
 -- ---- the certificate's check

@@ -1,21 +1,13 @@
 -- Of what is known, ruled and assigned there is as much as there are relays; and the entries that are made of it.
-use Rattle.std.proofs.Common.{◌≡◌, ℕ, List, [], ◌∷◌, length, refl, ap, ap₂, ◌∙◌}
-use Rattle.std.proofs.lemmas.List.{length-map}
+use Rattle.std.proofs.{Common.{◌≡◌, ℕ, List, [], ◌∷◌, length, refl, ap, ap₂, ◌∙◌}, lemmas.List.length-map}
 use Rattle.count_terms.specs.declared.newest.Newest.{Newest}
 use Rattle.descriptor_doc.specs.declared.descriptor.Descriptor.{Descriptor}
-use Rattle.flag_rules.specs.Flags.{flags_of}
-use Rattle.flag_rules.specs.Relays.{ruled_relays}
-use Rattle.flag_rules.specs.declared.flags.Flags.{Flags}
-use Rattle.flag_rules.specs.declared.relay.Measured.{Measured}
-use Rattle.flag_rules.specs.declared.relay.RelayFacts.{RelayFacts}
-use Rattle.flag_rules.specs.declared.relay.RuledRelay.{RuledRelay}
-use Rattle.flag_rules.specs.declared.ruling.Ruling.{Ruling}
+use Rattle.flag_rules.specs.{Flags.flags_of, Relays.ruled_relays, declared.{flags.Flags.Flags, relay.Measured.Measured}}
+use Rattle.flag_rules.specs.declared.{relay.{RelayFacts.RelayFacts, RuledRelay.RuledRelay}, ruling.Ruling.Ruling}
 use Rattle.station_input.specs.declared.frame_said.MeasuredRelay.{MeasuredRelay}
-use Rattle.vote_maker.specs.Listings.{judged_relays, made_entries}
-use Rattle.vote_maker.specs.Made.{entries_under}
-use Rattle.vote_maker.specs.Private.{AreAsMany, MeasureAlike}
-use Rattle.vote_maker.specs.Relays.{known_of, known_relays}
-use Rattle.vote_maker.proofs.Judged.{length-flags, length-ruled}
+use Rattle.vote_maker.specs.{Listings.{judged_relays, made_entries}, Made.entries_under, Private.AreAsMany}
+use Rattle.vote_maker.{specs.{Private.MeasureAlike, Relays.{known_of, known_relays}}, proofs.Judged.length-flags}
+use Rattle.vote_maker.proofs.Judged.{length-ruled}
 
 pub as_many : (measured : List MeasuredRelay) (ds : List Descriptor) (now : ℕ) (ks : List RelayFacts)
     (rs : List Ruling) (fs : List Flags) → ks ≡ known_relays measured ds → length rs ≡ length ks

@@ -1,20 +1,16 @@
 -- The text of a vote that was signed, and why one was not.
 use Rattle.std.proofs.Common.{◌≡◌, ℕ, ◌<◌, true, List, [], ◌∷◌, ◌++◌, length, refl, sym, ap, subst, ◌∙◌, append_assoc}
-use Rattle.std.proofs.Common.{Result, Ok, Err}
-use Rattle.std.specs.Prelude.{IfOk}
+use Rattle.std.{proofs.Common.{Result, Ok, Err}, specs.Prelude.IfOk}
 use Rattle.item_terms.specs.Bytes.{line_feed, space}
 use Rattle.sha1.specs.Sha1.{sha1}
-use Rattle.key_port.specs.Answers.{Relation}
-use Rattle.key_port.specs.Signing.{GivesBy, SignerSteps}
+use Rattle.key_port.specs.{Answers.Relation, Signing.{GivesBy, SignerSteps}}
 use Rattle.key_port.specs.declared.signer.SignAnswer.TheVariants as sign
 use Rattle.key_port.specs.declared.verifier.KeyKind.TheVariants as kind
 use Rattle.authority_certs.specs.declared.cert.Cert.{Cert}
 use Rattle.vote_text.specs.Made.{signature_rest}
-use Rattle.vote_maker.specs.Made.{signature_by}
+use Rattle.vote_maker.specs.{Made.signature_by, Private.{IsSignedText, RefusesToSign}}
+use Rattle.vote_maker.specs.declared.refusal.MakeRefusal.{MakeRefusal, TheVariants.TooLong}
 use Rattle.vote_terms.specs.Votes.{max_vote}
-use Rattle.vote_maker.specs.Private.{IsSignedText, RefusesToSign}
-use Rattle.vote_maker.specs.declared.refusal.MakeRefusal.{MakeRefusal}
-use Rattle.vote_maker.specs.declared.refusal.MakeRefusal.TheVariants.{TooLong}
 
 -- what is said of a value by two facts
 pub ok_both : {T E : Type 0} {P Q R : T → Type 0} (r : Result T E) → ((x : T) → P x → Q x → R x) → IfOk r P

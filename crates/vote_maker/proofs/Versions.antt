@@ -1,11 +1,8 @@
 -- The version that a platform names, by its arguments.
 use Rattle.std.proofs.Common.{◌≡◌, ℕ, Bool, true, false, List, [], ◌∷◌, ◌++◌, Some, None, sym, ap, ◌∙◌}
-use Rattle.std.specs.Prelude.{codes, if◌then◌else◌}
-use Rattle.std.specs.Str.{bytes_eq}
-use Rattle.item_terms.specs.Bytes.{space}
-use Rattle.item_terms.specs.Words.{words_of}
-use Rattle.dir_values.specs.Arguments.{Argument, arguments_at, texts_of}
-use Rattle.dir_values.proofs.ArgumentWords.{arguments_words}
+use Rattle.std.specs.{Prelude.{codes, if◌then◌else◌}, Str.bytes_eq}
+use Rattle.item_terms.specs.{Bytes.space, Words.words_of}
+use Rattle.dir_values.{specs.Arguments.{Argument, arguments_at, texts_of}, proofs.ArgumentWords.arguments_words}
 use Rattle.vote_maker.specs.Entries.{version_of_platform, version_of_words}
 
 words_are : (platform : List ℕ) (all : List Argument) → all ≡ arguments_at 0 platform

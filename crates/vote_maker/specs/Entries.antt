@@ -1,23 +1,16 @@
 -- The entry of a relay in a vote that an authority makes (dir-spec, "Vote and consensus status document formats").
 use Rattle.std.specs.Prelude.{ℕ, List, [], ◌∷◌, ◌++◌, take, Option, Some, None, option_and_then, codes, if◌then◌else◌}
 use Rattle.std.specs.Str.{bytes_eq}
-use Rattle.count_terms.specs.declared.newest.Newest.{Newest}
-use Rattle.count_terms.specs.declared.newest.Newest.TheVariants.{Method33, Method34, Method35}
-use Rattle.item_terms.specs.Bytes.{space}
-use Rattle.item_terms.specs.Words.{words_of}
-use Rattle.dir_values.specs.Ports.{summary_text}
+use Rattle.count_terms.specs.declared.newest.Newest.{Newest, TheVariants.{Method33, Method34, Method35}}
+use Rattle.item_terms.specs.{Bytes.space, Words.words_of}
+use Rattle.dir_values.specs.{Ports.summary_text, declared.digest.Digest2.Digest2}
 use Rattle.exit_summary.specs.Summaries.{summary_of}
-use Rattle.dir_values.specs.declared.digest.Digest2.{Digest2}
 use Rattle.descriptor_frame.specs.declared.certificate.EdCert.{EdCert}
 use Rattle.descriptor_doc.specs.declared.descriptor.Descriptor.{Descriptor}
-use Rattle.relay_entries.specs.declared.said.Bandwidths.{Bandwidths}
-use Rattle.relay_entries.specs.declared.said.EdOpinion.{EdOpinion}
+use Rattle.relay_entries.specs.declared.said.{Bandwidths.Bandwidths, EdOpinion.EdOpinion}
 use Rattle.relay_entries.specs.declared.said.EdOpinion.TheVariants as opinion
-use Rattle.vote_terms.specs.declared.entry.EntryFacts.{EntryFacts}
-use Rattle.vote_terms.specs.declared.entry.MicroFacts.{MicroFacts}
-use Rattle.flag_rules.specs.Names.{names_of}
-use Rattle.flag_rules.specs.declared.flags.Flags.{Flags}
-use Rattle.flag_rules.specs.declared.relay.RelayFacts.{RelayFacts}
+use Rattle.vote_terms.specs.declared.entry.{EntryFacts.EntryFacts, MicroFacts.MicroFacts}
+use Rattle.flag_rules.specs.{Names.names_of, declared.{flags.Flags.Flags, relay.RelayFacts.RelayFacts}}
 use Rattle.vote_pool.specs.Summaries.{family_digest_of, micro_digest_of}
 
 -- ---- methods and microdescriptors

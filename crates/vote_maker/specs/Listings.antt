@@ -1,14 +1,11 @@
 -- Which relays have an entry in a vote that an authority makes.
-use Rattle.std.specs.Prelude.{Bool, false, not, ◌&&◌, List, [], ◌∷◌, map, filter, Option, Some}
-use Rattle.std.specs.List.{list_any}
+use Rattle.std.specs.{Prelude.{Bool, false, not, ◌&&◌, List, [], ◌∷◌, map, filter, Option, Some}, List.list_any}
 use Rattle.std.specs.Str.{bytes_eq}
 use Rattle.count_terms.specs.declared.newest.Newest.{Newest}
 use Rattle.dir_values.specs.Digests.{identity_below}
 use Rattle.descriptor_frame.specs.declared.certificate.EdCert.{EdCert}
 use Rattle.descriptor_doc.specs.declared.descriptor.Descriptor.{Descriptor}
-use Rattle.flag_rules.specs.Rulings.{is_reject}
-use Rattle.flag_rules.specs.declared.flags.Flags.{Flags}
-use Rattle.flag_rules.specs.declared.relay.RuledRelay.{RuledRelay}
+use Rattle.flag_rules.specs.{Rulings.is_reject, declared.{flags.Flags.Flags, relay.RuledRelay.RuledRelay}}
 use Rattle.vote_terms.specs.declared.entry.EntryFacts.{EntryFacts}
 use Rattle.vote_maker.specs.Entries.{made_entry}
 

@@ -6,20 +6,13 @@ use Rattle.count_terms.specs.declared.newest.Newest.{Newest}
 use Rattle.dir_values.specs.declared.algorithm.Algorithm.TheVariants.{Sha1}
 use Rattle.authority_certs.specs.declared.cert.Cert.{Cert}
 use Rattle.descriptor_doc.specs.declared.descriptor.Descriptor.{Descriptor}
-use Rattle.flag_rules.specs.Flags.{flags_of}
-use Rattle.flag_rules.specs.Relays.{ruled_relays}
-use Rattle.flag_rules.specs.declared.relay.RelayFacts.{RelayFacts}
+use Rattle.flag_rules.specs.{Flags.flags_of, Relays.ruled_relays, declared.relay.RelayFacts.RelayFacts}
 use Rattle.flag_rules.specs.declared.ruling.Ruling.{Ruling}
-use Rattle.station_input.specs.declared.frame_said.MeasuredRelay.{MeasuredRelay}
-use Rattle.station_input.specs.declared.facts.StationFacts.{StationFacts}
-use Rattle.vote_schedule.specs.Moments.{fresh_until, valid_until}
-use Rattle.vote_schedule.specs.Schedules.{Schedule}
-use Rattle.vote_terms.specs.declared.entry.EntryFacts.{EntryFacts}
-use Rattle.vote_terms.specs.declared.facts.SignatureFacts.{SignatureFacts}
+use Rattle.station_input.specs.declared.{frame_said.MeasuredRelay.MeasuredRelay, facts.StationFacts.StationFacts}
+use Rattle.vote_schedule.specs.{Moments.{fresh_until, valid_until}, Schedules.Schedule}
+use Rattle.vote_terms.specs.declared.{entry.EntryFacts.EntryFacts, facts.SignatureFacts.SignatureFacts}
 use Rattle.vote_terms.specs.declared.facts.VoteFacts.{VoteFacts}
-use Rattle.vote_maker.specs.Entries.{made_methods}
-use Rattle.vote_maker.specs.Listings.{judged_relays, made_entries}
-use Rattle.vote_maker.specs.Relays.{known_relays}
+use Rattle.vote_maker.specs.{Entries.made_methods, Listings.{judged_relays, made_entries}, Relays.known_relays}
 
 -- ---- of what a vote is made
 

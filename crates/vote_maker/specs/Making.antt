@@ -3,23 +3,17 @@
 use Rattle.std.specs.Prelude.{◌≡◌, ◌⊎◌, ℕ, ◌≤◌, ◌<◌, Bool, true, false, List, length, Result, Ok, Err}
 use Rattle.hex.specs.Hex.{IsBytes}
 use Rattle.sha1.specs.Sha1.{sha1}
-use Rattle.key_port.specs.Answers.{Relation, Rules}
-use Rattle.key_port.specs.Signing.{SignerSteps, signature_limit}
+use Rattle.key_port.specs.{Answers.{Relation, Rules}, Signing.{SignerSteps, signature_limit}}
 use Rattle.key_port.specs.declared.signer.SignAnswer.{SignAnswer}
 use Rattle.key_port.specs.declared.signer.SignAnswer.TheVariants as sign
 use Rattle.key_port.specs.declared.verifier.KeyKind.TheVariants as kind
-use Rattle.authority_certs.specs.Checks.{Checks, IsCertified, IsCurrent}
-use Rattle.authority_certs.specs.declared.checking.CertAnswer.{CertAnswer}
+use Rattle.authority_certs.specs.{Checks.{Checks, IsCertified, IsCurrent}, declared.checking.CertAnswer.CertAnswer}
 use Rattle.authority_certs.specs.declared.checking.CertAnswer.TheVariants as answer
-use Rattle.flag_rules.specs.Rules.{AreAllowed}
-use Rattle.flag_rules.specs.declared.relay.RelayFacts.{RelayFacts}
-use Rattle.flag_rules.specs.declared.ruling.Ruling.{Ruling}
-use Rattle.vote_terms.specs.declared.facts.VoteFacts.{VoteFacts}
-use Rattle.vote_terms.specs.Votes.{max_vote}
+use Rattle.flag_rules.specs.{Rules.AreAllowed, declared.{relay.RelayFacts.RelayFacts, ruling.Ruling.Ruling}}
+use Rattle.vote_terms.specs.{declared.facts.VoteFacts.VoteFacts, Votes.max_vote}
 use Rattle.vote_text.specs.Made.{made_signed, made_text}
-use Rattle.vote_maker.specs.declared.refusal.MakeRefusal.{MakeRefusal}
+use Rattle.vote_maker.specs.{declared.refusal.MakeRefusal.MakeRefusal, Made.{Basis, made, relays_in, with_signature}}
 use Rattle.vote_maker.specs.declared.refusal.MakeRefusal.TheVariants as refusal
-use Rattle.vote_maker.specs.Made.{Basis, made, relays_in, with_signature}
 
 -- ---- the signature
 

@@ -1,47 +1,32 @@
 -- What the private functions of this crate say.
-use Rattle.std.specs.Prelude.{◌≡◌, ◌⊎◌, ℕ, ◌<◌, ◌≤◌, Bool, true, false, not, ◌&&◌, List, [], ◌∷◌, ◌++◌}
-use Rattle.std.specs.Prelude.{length, codes, drop, AllPairs}
-use Rattle.std.specs.Prelude.{Option, Some, None, if◌then◌else◌}
+use Rattle.std.specs.Prelude.{◌≡◌, ◌⊎◌, ℕ, ◌<◌, ◌≤◌, Bool, true, false, not, ◌&&◌, List, [], ◌∷◌, ◌++◌, length, codes}
+use Rattle.std.specs.{Prelude.{drop, AllPairs, Option, Some, None, if◌then◌else◌}, Cmp.Lexicographic.slice_cmp}
+use Rattle.std.specs.{Ordering.{nat_cmp, is_lt}, declared.cmp.Ordering.Ordering}
 use Rattle.std.specs.FinSet as set
-use Rattle.std.specs.Cmp.Lexicographic.{slice_cmp}
-use Rattle.std.specs.Ordering.{nat_cmp, is_lt}
-use Rattle.std.specs.declared.cmp.Ordering.{Ordering}
 use Rattle.hex.specs.Hex.{IsBytes}
 use Rattle.sha1.specs.Sha1.{sha1}
 use Rattle.count_terms.specs.declared.newest.Newest.{Newest}
-use Rattle.dir_values.specs.Digests.{identity_below}
-use Rattle.dir_values.specs.declared.digest.Fingerprint.{Fingerprint}
+use Rattle.dir_values.specs.{Digests.identity_below, declared.digest.Fingerprint.Fingerprint}
 use Rattle.dirdoc_grammar.specs.Writing.{item_text, items_text}
 use Rattle.frame_terms.specs.declared.keyword.Keyword.TheVariants as the
 use Rattle.frame_values.specs.Items.{bare}
 use Rattle.authority_certs.specs.declared.cert.Cert.{Cert}
 use Rattle.descriptor_doc.specs.declared.descriptor.Descriptor.{Descriptor}
-use Rattle.flag_rules.specs.Rules.{AreAllowed}
-use Rattle.flag_rules.specs.Rulings.{is_reject}
-use Rattle.flag_rules.specs.declared.flags.Flags.{Flags}
-use Rattle.flag_rules.specs.declared.relay.RelayFacts.{RelayFacts}
-use Rattle.flag_rules.specs.declared.ruling.Ruling.{Ruling}
-use Rattle.key_port.specs.Answers.{Relation}
-use Rattle.key_port.specs.Signing.{SignerSteps, signature_limit}
+use Rattle.flag_rules.specs.{Rules.AreAllowed, Rulings.is_reject, declared.flags.Flags.Flags}
+use Rattle.flag_rules.specs.declared.{relay.RelayFacts.RelayFacts, ruling.Ruling.Ruling}
+use Rattle.key_port.specs.{Answers.Relation, Signing.{SignerSteps, signature_limit}}
 use Rattle.key_port.specs.declared.signer.SignAnswer.{SignAnswer}
 use Rattle.key_port.specs.declared.signer.SignAnswer.TheVariants as sign
 use Rattle.key_port.specs.declared.verifier.KeyKind.TheVariants as kind
 use Rattle.relay_entries.specs.declared.said.EdOpinion.{EdOpinion}
 use Rattle.relay_entries.specs.declared.said.EdOpinion.TheVariants as opinion
-use Rattle.station_input.specs.declared.frame_said.MeasuredRelay.{MeasuredRelay}
-use Rattle.station_input.specs.declared.facts.StationFacts.{StationFacts}
-use Rattle.vote_terms.specs.declared.entry.EntryFacts.{EntryFacts}
-use Rattle.vote_terms.specs.declared.facts.VoteFacts.{VoteFacts}
-use Rattle.vote_text.specs.Entries.{entries_items}
-use Rattle.vote_text.specs.Made.{made_signed, signature_rest}
-use Rattle.vote_text.specs.Texts.{authority_items, preamble_items}
+use Rattle.station_input.specs.declared.{frame_said.MeasuredRelay.MeasuredRelay, facts.StationFacts.StationFacts}
+use Rattle.vote_terms.specs.{declared.{entry.EntryFacts.EntryFacts, facts.VoteFacts.VoteFacts}, Votes.max_vote}
+use Rattle.vote_text.specs.{Entries.entries_items, Made.{made_signed, signature_rest}, Texts.authority_items}
+use Rattle.vote_text.specs.Texts.{preamble_items}
 use Rattle.vote_pool.specs.Kept.{signer_of}
-use Rattle.vote_maker.specs.Entries.{made_entry}
-use Rattle.vote_maker.specs.Listings.{JudgedRelay}
-use Rattle.vote_maker.specs.Made.{Basis, basis, entries_under, made, relays_in, signature_by}
-use Rattle.vote_terms.specs.Votes.{max_vote}
-use Rattle.vote_maker.specs.Making.{fails}
-use Rattle.vote_maker.specs.Relays.{known_relays, measured_for}
+use Rattle.vote_maker.specs.{Entries.made_entry, Listings.JudgedRelay, Made.{Basis, basis, entries_under, made}}
+use Rattle.vote_maker.specs.{Made.{relays_in, signature_by}, Making.fails, Relays.{known_relays, measured_for}}
 use Rattle.vote_maker.specs.declared.refusal.MakeRefusal.{MakeRefusal}
 use Rattle.vote_maker.specs.declared.refusal.MakeRefusal.TheVariants as refusal
 

@@ -1,16 +1,12 @@
 -- What is known of each relay when its flags are assigned (dir-spec, "Assigning flags in a vote"): what its
 -- descriptor says, and what was measured of it.
-use Rattle.std.specs.Prelude.{ℕ, ◌/◌, min, Bool, false, ◌&&◌, List, map, None, unwrap_or}
-use Rattle.std.specs.List.{find}
+use Rattle.std.specs.{Prelude.{ℕ, ◌/◌, min, Bool, false, ◌&&◌, List, map, None, unwrap_or}, List.find}
 use Rattle.std.specs.Option.{option_map}
-use Rattle.dir_values.specs.Digests.{same_identity}
-use Rattle.dir_values.specs.Ports.{Ports, accepts}
-use Rattle.dir_values.specs.declared.digest.Fingerprint.{Fingerprint}
+use Rattle.dir_values.specs.{Digests.same_identity, Ports.{Ports, accepts}, declared.digest.Fingerprint.Fingerprint}
 use Rattle.exit_summary.specs.Summaries.{summary_of}
 use Rattle.descriptor_frame.specs.declared.said.BandwidthLine.{BandwidthLine}
 use Rattle.descriptor_doc.specs.declared.descriptor.Descriptor.{Descriptor}
-use Rattle.flag_rules.specs.declared.relay.Measured.{Measured}
-use Rattle.flag_rules.specs.declared.relay.RelayFacts.{RelayFacts}
+use Rattle.flag_rules.specs.declared.relay.{Measured.Measured, RelayFacts.RelayFacts}
 use Rattle.station_input.specs.declared.frame_said.MeasuredRelay.{MeasuredRelay}
 
 -- ---- what was measured

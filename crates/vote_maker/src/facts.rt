@@ -2,8 +2,7 @@
 ghost use Rattle.std.specs.Prelude.{◌≡◌, ◌≤◌, [], IfOk, OnOk};
 ghost use Rattle.dir_bytes.specs.Causes.{last_moment};
 ghost use Rattle.flag_rules.specs.Rules.{KeepsTo};
-ghost use Rattle.vote_schedule.specs.Moments.{valid_until};
-ghost use Rattle.vote_schedule.specs.Schedules.{IsSchedule};
+ghost use Rattle.vote_schedule.specs.{Moments.valid_until, Schedules.IsSchedule};
 ghost use Rattle.vote_maker.specs.Made as terms;
 ghost use Rattle.vote_maker.specs.Private as walks;
 

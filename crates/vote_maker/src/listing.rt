@@ -1,7 +1,6 @@
 // Which relays have an entry, and their entries.
 ghost use Rattle.std.specs.Prelude.{◌≡◌, ◌≤◌, ◌<◌, ◌++◌, IfOk, OnOk, length, slice_index_or};
-ghost use Rattle.flag_rules.specs.Relays.{ruled_relays};
-ghost use Rattle.flag_rules.specs.Rulings.{is_reject};
+ghost use Rattle.flag_rules.specs.{Relays.ruled_relays, Rulings.is_reject};
 ghost use Rattle.vote_maker.specs.Listings as listings;
 ghost use Rattle.vote_maker.specs.Private as walks;
 

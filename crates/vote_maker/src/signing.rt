@@ -2,9 +2,8 @@
 ghost use Rattle.std.specs.Prelude.{◌≡◌, ◌≤◌, ◌<◌, ◌++◌, Err, IfOk, IfErr, OnOk, length};
 ghost use Rattle.dir_bytes.specs.Causes.{Rose};
 ghost use Rattle.vote_text.specs.Made as text_of;
-ghost use Rattle.vote_maker.specs.Made.{signature_by};
+ghost use Rattle.vote_maker.specs.{Made.signature_by, Private.{IsSignedText, RefusesToSign}};
 ghost use Rattle.vote_terms.specs.Votes.{max_vote};
-ghost use Rattle.vote_maker.specs.Private.{IsSignedText, RefusesToSign};
 
 use crate::refusal::MakeRefusal;
 use authority_certs::Cert;

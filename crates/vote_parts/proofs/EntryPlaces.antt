@@ -2,28 +2,19 @@
 use Rattle.std.proofs.Common.{ℕ, []}
 use Rattle.item_terms.specs.Items.{Item}
 use Rattle.dir_bytes.specs.Fields.{address, date, time_of_day}
-use Rattle.dir_values.specs.Digests.{digest1}
-use Rattle.dir_values.specs.FlagSets.{wrong_flag}
-use Rattle.dir_values.specs.Names.{is_nickname}
-use Rattle.dir_values.specs.Numbers.{port_of}
-use Rattle.frame_values.specs.Arguments.{arguments_of, field, others}
-use Rattle.frame_values.specs.Fields.{span_if}
-use Rattle.frame_values.specs.Lines.{rest_unless}
+use Rattle.dir_values.specs.{Digests.digest1, FlagSets.wrong_flag, Names.is_nickname, Numbers.port_of}
+use Rattle.frame_values.specs.{Arguments.{arguments_of, field, others}, Fields.span_if, Lines.rest_unless}
 use Rattle.frame_values.specs.declared.found.Span.{Span}
 use Rattle.frame_values.specs.declared.values.Value.TheVariants as value
-use Rattle.relay_entries.specs.Fields.{are_methods, ed_opinion, identity, is_address}
-use Rattle.relay_entries.specs.Lines.{address_of, bandwidths_of, ed_of, entry_value, micro_of, no_bandwidths, relay_of}
-use Rattle.relay_entries.specs.Lines.{some_digest}
-use Rattle.relay_entries.specs.declared.said.Bandwidths.{Bandwidths}
-use Rattle.relay_entries.specs.declared.said.EdOpinion.{EdOpinion}
-use Rattle.relay_entries.specs.declared.said.EntryKind.{EntryKind}
+use Rattle.relay_entries.specs.{Fields.{are_methods, ed_opinion, identity, is_address}, Lines.address_of}
+use Rattle.relay_entries.specs.Lines.{bandwidths_of, ed_of, entry_value, micro_of, no_bandwidths, relay_of, some_digest}
+use Rattle.relay_entries.specs.declared.said.{Bandwidths.Bandwidths, EdOpinion.EdOpinion, EntryKind.EntryKind}
+use Rattle.relay_entries.specs.declared.said.{MicroLine.MicroLine, RelayLine.RelayLine}
 use Rattle.relay_entries.specs.declared.said.EntryKind.TheVariants as entry
 use Rattle.relay_entries.specs.declared.said.EntryValue.TheVariants as said
-use Rattle.relay_entries.specs.declared.said.MicroLine.{MicroLine}
-use Rattle.relay_entries.specs.declared.said.RelayLine.{RelayLine}
 use Rattle.fault_places.proofs.ArgumentPlaces.{PlaceIn, bandwidths_in, flag_in, others_begin, some_digest_in}
-use Rattle.fault_places.proofs.ItemPlaces.{IsItemIn, all_begin, at_front, front_argument_begins, first_begins, more_in, one_in, rest_in}
-use Rattle.fault_places.proofs.ItemPlaces.{second_begins, then_in}
+use Rattle.fault_places.proofs.ItemPlaces.{IsItemIn, all_begin, at_front, front_argument_begins, first_begins, more_in}
+use Rattle.fault_places.proofs.ItemPlaces.{one_in, rest_in, second_begins, then_in}
 
 module _ (n : ℕ) (item : Item) (is : IsItemIn n item) where
   relay_in : PlaceIn n (relay_of item)

@@ -1,17 +1,13 @@
 -- A vote is read of its own part alone, and kept of that.
-use Rattle.std.proofs.Common.{◌≡◌, ℕ, ◌+◌, ◌≤◌, List, drop, length, take, Result, Ok, Err}
-use Rattle.std.proofs.Common.{refl, sym, ap, subst, ◌∙◌, arith, length-take}
-use Rattle.std.proofs.lemmas.List.{take_all}
+use Rattle.std.proofs.Common.{◌≡◌, ℕ, ◌+◌, ◌≤◌, List, drop, length, take, Result, Ok, Err, refl, sym, ap, subst, ◌∙◌}
+use Rattle.std.proofs.{Common.{arith, length-take}, lemmas.List.take_all}
 use Rattle.item_terms.specs.Items.{items_of}
-use Rattle.frame_terms.specs.Documents.{document_of, finish}
-use Rattle.frame_terms.specs.declared.fault.ReadRefusal.{ReadRefusal}
+use Rattle.frame_terms.specs.{Documents.{document_of, finish}, declared.fault.ReadRefusal.ReadRefusal}
 use Rattle.grammar_laws.proofs.OwnPart.{own_part_same, within_text}
 use Rattle.vote_frame.specs.Tables.{vote_tables}
 use Rattle.vote_terms.specs.Votes.{ReadVote, max_vote}
 use Rattle.blank_lines.specs.Behind.{behind}
-use Rattle.vote_doc.specs.Facts.{vote_in}
-use Rattle.vote_doc.specs.Kept.{kept_with, none_kept}
-use Rattle.vote_doc.specs.Reading.{vote_of, with_facts}
+use Rattle.vote_doc.specs.{Facts.vote_in, Kept.{kept_with, none_kept}, Reading.{vote_of, with_facts}}
 use Rattle.vote_parts.specs.Own.{IsOwn, OwnVotesAreRead, PlacedVotesAreRead, VoteDocument, says}
 use Rattle.vote_parts.proofs.VoteEnds.{vote_ends}
 

@@ -1,39 +1,26 @@
 -- Votes end with their last item's object.
-use Rattle.std.proofs.Common.{◌≡◌, ℕ, ◌+◌, length, Bool, true, false, List, [], ◌∷◌, Option, Some, None, Result}
-use Rattle.std.proofs.Common.{Ok, Err, refl, sym, ap, subst, ◌∙◌}
-use Rattle.std.specs.Prelude.{◌≢◌, codes, is_some, if◌then◌else◌}
+use Rattle.std.proofs.Common.{◌≡◌, ℕ, ◌+◌, length, Bool, true, false, List, [], ◌∷◌, Option, Some, None, Result, Ok}
+use Rattle.std.{proofs.Common.{Err, refl, sym, ap, subst, ◌∙◌}, specs.Prelude.{◌≢◌, codes, is_some, if◌then◌else◌}}
 use Rattle.std.specs.List.{AllByRecursion, find}
 use Rattle.item_terms.specs.Items.{Item, Object}
-use Rattle.frame_terms.specs.declared.fault.FrameFault.{FrameFault}
-use Rattle.frame_terms.specs.declared.keyword.Keyword.{Keyword}
+use Rattle.frame_terms.specs.declared.{fault.FrameFault.FrameFault, keyword.Keyword.Keyword, row.Row.Row}
+use Rattle.frame_terms.specs.{Keywords.same, Order.is_keyword, Sections.row_of}
 use Rattle.frame_terms.specs.declared.keyword.Keyword.TheVariants as the
-use Rattle.frame_terms.specs.declared.row.Row.{Row}
 use Rattle.frame_terms.specs.declared.section.Again.TheVariants as again
-use Rattle.frame_terms.specs.Keywords.{same}
-use Rattle.frame_terms.specs.Order.{is_keyword}
-use Rattle.frame_terms.specs.Sections.{row_of}
-use Rattle.frame_values.specs.declared.found.Span.{Span}
-use Rattle.frame_values.specs.declared.found.VoteSignature.{VoteSignature}
-use Rattle.frame_values.specs.declared.values.Value.{Value}
-use Rattle.frame_values.specs.declared.values.Value.TheVariants as value
-use Rattle.frame_values.specs.Arguments.{arguments_of, field, front, next, others}
-use Rattle.frame_values.specs.Faults.{at_place, unless_fault}
+use Rattle.frame_values.specs.declared.{found.{Span.Span, VoteSignature.VoteSignature}, values.Value.Value}
+use Rattle.frame_values.specs.{Arguments.{arguments_of, field, front, next, others}, Faults.{at_place, unless_fault}}
 use Rattle.frame_values.specs.Signatures.{after_algorithm, algorithm_if, has_words, is_space, object_if, signature_of}
 use Rattle.frame_values.specs.Signatures.{signed_by}
-use Rattle.dir_values.specs.declared.algorithm.Algorithm.{Algorithm}
-use Rattle.dir_values.specs.Arguments.{Argument}
-use Rattle.dir_values.specs.declared.digest.Digest1.{Digest1}
-use Rattle.dir_values.specs.declared.digest.Fingerprint.{Fingerprint}
-use Rattle.dir_values.specs.Digests.{fingerprint, key_digest}
+use Rattle.frame_values.specs.declared.values.Value.TheVariants as value
+use Rattle.dir_values.specs.declared.{algorithm.Algorithm.Algorithm, digest.{Digest1.Digest1, Fingerprint.Fingerprint}}
+use Rattle.dir_values.specs.{Arguments.Argument, Digests.{fingerprint, key_digest}}
 use Rattle.authority_certs.specs.declared.frame.CertKind.TheVariants.{Certification}
 use Rattle.grammar_laws.specs.Parts.{EndWithObjects}
-use Rattle.vote_frame.specs.declared.frame.VoteKind.{VoteKind}
-use Rattle.vote_frame.specs.declared.frame.VoteKind.TheVariants.{Certificate, Signature}
-use Rattle.vote_frame.specs.declared.frame.VoteSection.{VoteSection}
+use Rattle.vote_frame.specs.declared.frame.VoteKind.{VoteKind, TheVariants.{Certificate, Signature}}
+use Rattle.vote_frame.specs.{declared.frame.{VoteSection.VoteSection, VoteValue.VoteValue}, Tables.{over_limit, rows}}
+use Rattle.vote_frame.specs.Tables.{shape, value_at, vote_tables}
 use Rattle.vote_frame.specs.declared.frame.VoteSection.TheVariants as section
-use Rattle.vote_frame.specs.declared.frame.VoteValue.{VoteValue}
 use Rattle.vote_frame.specs.declared.frame.VoteValue.TheVariants as own
-use Rattle.vote_frame.specs.Tables.{over_limit, rows, shape, value_at, vote_tables}
 
 -- ---- the rows of last items
 

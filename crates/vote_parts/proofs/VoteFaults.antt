@@ -1,18 +1,13 @@
 -- The first fault of a vote stands within its bytes.
 use Rattle.std.proofs.Common.{◌≡◌, ◌≤◌, length, Result, Ok, Err, refl, ap, ◌∙◌}
 use Rattle.item_terms.specs.Items.{items_of}
-use Rattle.frame_terms.specs.declared.fault.ReadRefusal.{ReadRefusal}
-use Rattle.frame_terms.specs.declared.fault.ReadRefusal.TheVariants.{Frame}
-use Rattle.frame_terms.specs.Documents.{Document, document_of, finish}
+use Rattle.frame_terms.specs.{declared.fault.ReadRefusal.{ReadRefusal, TheVariants.Frame}, Documents.Document}
+use Rattle.frame_terms.specs.Documents.{document_of, finish}
 use Rattle.frame_values.specs.declared.values.Value.{Value}
-use Rattle.vote_frame.specs.Tables.{vote_tables}
-use Rattle.vote_frame.specs.declared.frame.VoteSection.{VoteSection}
-use Rattle.vote_frame.specs.declared.frame.VoteValue.{VoteValue}
-use Rattle.vote_doc.specs.Kept.{kept_with, none_kept}
+use Rattle.vote_frame.specs.{Tables.vote_tables, declared.frame.{VoteSection.VoteSection, VoteValue.VoteValue}}
+use Rattle.vote_doc.specs.{Kept.{kept_with, none_kept}, Reading.with_facts}
 use Rattle.vote_terms.specs.Votes.{max_vote}
-use Rattle.vote_doc.specs.Reading.{with_facts}
-use Rattle.vote_parts.specs.Within.{VoteFaultsStandWithin}
-use Rattle.vote_parts.proofs.VotePlaces.{vote_faults}
+use Rattle.vote_parts.{specs.Within.VoteFaultsStandWithin, proofs.VotePlaces.vote_faults}
 
 abbrev Read : Type 0
 Read = Result (Document VoteSection (Value VoteValue)) ReadRefusal

@@ -1,55 +1,38 @@
 -- The places of what is wrong with the items of a vote, and of the first fault of their document.
-use Rattle.std.proofs.Common.{◌≡◌, ℕ, ◌≤◌, Bool, true, false, List, [], length, Option, Result, Ok, Err}
-use Rattle.std.proofs.Common.{subst}
+use Rattle.std.proofs.Common.{◌≡◌, ℕ, ◌≤◌, Bool, true, false, List, [], length, Option, Result, Ok, Err, subst}
 use Rattle.std.specs.Prelude.{◌||◌, codes, nat_lt, if◌then◌else◌}
 use Rattle.std.specs.FinSet as set
 use Rattle.item_terms.specs.Items.{Item}
-use Rattle.dir_values.specs.FlagSets.{wrong_flag}
-use Rattle.dir_values.specs.Numbers.{wrong_number}
-use Rattle.dir_values.specs.declared.digest.Fingerprint.{Fingerprint}
-use Rattle.list_values.specs.Params.{wrong_param}
-use Rattle.list_values.specs.Protocols.{wrong_protocol}
-use Rattle.list_values.specs.VersionLists.{wrong_version_list}
-use Rattle.frame_terms.specs.Rows.{limit_number}
-use Rattle.frame_terms.specs.declared.fault.FrameFault.{FrameFault}
+use Rattle.dir_values.specs.{FlagSets.wrong_flag, Numbers.wrong_number, declared.digest.Fingerprint.Fingerprint}
+use Rattle.list_values.specs.{Params.wrong_param, Protocols.wrong_protocol, VersionLists.wrong_version_list}
+use Rattle.frame_terms.specs.{Rows.limit_number, declared.{fault.FrameFault.FrameFault, row.Limit.Limit}}
 use Rattle.frame_terms.specs.declared.fault.FrameReason.TheVariants as reason
-use Rattle.frame_terms.specs.declared.row.Limit.{Limit}
 use Rattle.frame_terms.specs.declared.row.Limit.TheVariants as limit
-use Rattle.frame_values.specs.Arguments.{arguments_of, next}
-use Rattle.frame_values.specs.Faults.{at_place, too_many, unless_fault}
+use Rattle.frame_values.specs.{Arguments.{arguments_of, next}, Faults.{at_place, too_many, unless_fault}}
 use Rattle.frame_values.specs.Lines.{argument_of, delays_of, fingerprint_of, literal, rest_unless, source_of, time_of}
-use Rattle.frame_values.specs.Signatures.{has_words, object_if, signature_of}
-use Rattle.frame_values.specs.declared.found.DirSource.{DirSource}
-use Rattle.frame_values.specs.declared.found.Span.{Span}
-use Rattle.frame_values.specs.declared.found.VoteSignature.{VoteSignature}
-use Rattle.frame_values.specs.declared.values.Value.{Value}
+use Rattle.frame_values.specs.{Signatures.{has_words, object_if, signature_of}, declared.found.DirSource.DirSource}
+use Rattle.frame_values.specs.declared.{found.{Span.Span, VoteSignature.VoteSignature}, values.Value.Value}
 use Rattle.frame_values.specs.declared.values.Value.TheVariants as value
-use Rattle.authority_certs.specs.Tables.{cert_value}
-use Rattle.authority_certs.specs.declared.frame.CertKind.{CertKind}
+use Rattle.authority_certs.specs.{Tables.cert_value, declared.frame.CertKind.CertKind}
 use Rattle.authority_certs.specs.declared.frame.CertKind.TheVariants as cert
-use Rattle.value_groups.specs.declared.line.RandomLine.{RandomLine}
-use Rattle.value_groups.specs.declared.value.SharedRandom.{SharedRandom}
-use Rattle.relay_entries.specs.Lines.{entry_value, lifted_entry_value}
-use Rattle.relay_entries.specs.Listing.{fault_at, is_next, note_entry, too_many_entries, with_key, with_relay}
-use Rattle.relay_entries.specs.declared.listed.Listed.{Listed}
+use Rattle.value_groups.specs.declared.{line.RandomLine.RandomLine, value.SharedRandom.SharedRandom}
+use Rattle.relay_entries.specs.{Lines.{entry_value, lifted_entry_value}, Listing.{fault_at, is_next, note_entry}}
+use Rattle.relay_entries.specs.{Listing.{too_many_entries, with_key, with_relay}, declared.listed.Listed.Listed}
+use Rattle.relay_entries.specs.declared.said.{EntryKind.EntryKind, EntryValue.EntryValue}
 use Rattle.relay_entries.specs.declared.said.EdOpinion.TheVariants as opinion
-use Rattle.relay_entries.specs.declared.said.EntryKind.{EntryKind}
 use Rattle.relay_entries.specs.declared.said.EntryKind.TheVariants as entry
-use Rattle.relay_entries.specs.declared.said.EntryValue.{EntryValue}
 use Rattle.relay_entries.specs.declared.said.EntryValue.TheVariants as given
-use Rattle.vote_frame.specs.Across.{has_line, keyword_of, note_random, unless_wrong, with_listed}
-use Rattle.vote_frame.specs.Tables.{note_value, over_limit, value_at, vote_tables}
-use Rattle.vote_frame.specs.declared.across.Across.{Across}
-use Rattle.vote_frame.specs.declared.frame.VoteKind.{VoteKind}
+use Rattle.vote_frame.specs.{Across.{has_line, keyword_of, note_random, unless_wrong, with_listed}, Tables.note_value}
+use Rattle.vote_frame.specs.{Tables.{over_limit, value_at, vote_tables}, declared.across.Across.Across}
+use Rattle.vote_frame.specs.declared.frame.{VoteKind.VoteKind, VoteValue.VoteValue}
 use Rattle.vote_frame.specs.declared.frame.VoteKind.TheVariants as kind
-use Rattle.vote_frame.specs.declared.frame.VoteValue.{VoteValue}
 use Rattle.vote_frame.specs.declared.frame.VoteValue.TheVariants as own
-use Rattle.fault_places.specs.Within.{FaultIn, FaultsStandIn, HasFaultsWithin}
-use Rattle.fault_places.proofs.FirstFaults.{first_faults}
-use Rattle.fault_places.proofs.ArgumentPlaces.{PlaceIfIn, PlaceIn, flag_in, number_in, param_in, protocol_in, versions_in}
+use Rattle.fault_places.{specs.Within.{FaultIn, FaultsStandIn, HasFaultsWithin}, proofs.FirstFaults.first_faults}
+use Rattle.fault_places.proofs.ArgumentPlaces.{PlaceIfIn, PlaceIn, flag_in, number_in, param_in, protocol_in}
+use Rattle.fault_places.proofs.{ArgumentPlaces.versions_in, ItemPlaces.{IsItemIn, all_begin, argument_in, delays_in}}
+use Rattle.fault_places.proofs.ItemPlaces.{fingerprint_in, item_in, literal_in, object_in, random_in, rest_in}
+use Rattle.fault_places.proofs.ItemPlaces.{signature_in, source_in, time_in}
 use Rattle.vote_parts.proofs.EntryPlaces.{entry_in}
-use Rattle.fault_places.proofs.ItemPlaces.{IsItemIn, all_begin, argument_in, delays_in, fingerprint_in, item_in, literal_in}
-use Rattle.fault_places.proofs.ItemPlaces.{object_in, random_in, rest_in, signature_in, source_in, time_in}
 
 abbrev Said : Type 0
 Said = Value VoteValue

@@ -1,18 +1,12 @@
 -- The own part of a vote (dir-spec, "Vote and consensus status document formats").
-use Rattle.std.specs.Prelude.{◌≡◌, ℕ, ◌+◌, ◌≤◌, List, drop, length, take, Ok}
-use Rattle.std.specs.List.{fold}
+use Rattle.std.specs.{Prelude.{◌≡◌, ℕ, ◌+◌, ◌≤◌, List, drop, length, take, Ok}, List.fold}
 use Rattle.item_terms.specs.Items.{items_of}
-use Rattle.frame_terms.specs.Documents.{Document, document_of}
-use Rattle.frame_terms.specs.declared.document.Group.{Group}
+use Rattle.frame_terms.specs.{Documents.{Document, document_of}, declared.document.Group.Group}
 use Rattle.frame_values.specs.declared.values.Value.{Value}
-use Rattle.vote_frame.specs.Tables.{vote_tables}
-use Rattle.vote_frame.specs.declared.frame.VoteSection.{VoteSection}
-use Rattle.vote_frame.specs.declared.frame.VoteValue.{VoteValue}
+use Rattle.vote_frame.specs.{Tables.vote_tables, declared.frame.{VoteSection.VoteSection, VoteValue.VoteValue}}
 use Rattle.vote_terms.specs.Votes.{ReadVote, max_vote}
-use Rattle.vote_doc.specs.declared.kept.Kept.{Kept}
-use Rattle.vote_doc.specs.Facts.{vote_in}
-use Rattle.vote_doc.specs.Kept.{kept_with, none_kept}
-use Rattle.vote_doc.specs.Reading.{vote_from, vote_of}
+use Rattle.vote_doc.specs.{declared.kept.Kept.Kept, Facts.vote_in, Kept.{kept_with, none_kept}, Reading.vote_from}
+use Rattle.vote_doc.specs.Reading.{vote_of}
 
 abbrev pub VoteDocument : Type 0
 VoteDocument = Document VoteSection (Value VoteValue)

@@ -1,7 +1,6 @@
 -- Where the first fault of a vote stands: within its bytes (dir-spec, "Document meta-format").
 use Rattle.std.specs.Prelude.{◌≡◌, ℕ, ◌≤◌, List, length, Err}
-use Rattle.frame_terms.specs.declared.fault.FrameFault.{FrameFault}
-use Rattle.frame_terms.specs.declared.fault.ReadRefusal.TheVariants.{Frame}
+use Rattle.frame_terms.specs.declared.fault.{FrameFault.FrameFault, ReadRefusal.TheVariants.Frame}
 use Rattle.vote_doc.specs.Reading.{vote_of}
 
 -- The first fault of a vote stands within its bytes.

@@ -1,22 +1,17 @@
 -- Of two descriptors of a relay the one of greater rank is held, and of other relays what was.
-use Rattle.std.proofs.Common.{◌≡◌, ℕ, ◌<◌, Bool, true, false, List, [], ◌∷◌, ◌++◌, filter, find, subst}
-use Rattle.std.proofs.Common.{Option, Some, refl, sym, ap, ◌∙◌, ⊎_elim, arith}
-use Rattle.std.specs.Prelude.{All, nat_eq, if◌then◌else◌}
-use Rattle.std.specs.Str.{bytes_eq}
-use Rattle.std.specs.Cmp.Lexicographic.{bytes_decides}
-use Rattle.std.proofs.lemmas.Bool.{cases_order, true≢false, false_from_ne_true}
-use Rattle.std.proofs.lemmas.Bool.Decides.{nat_tests}
-use Rattle.std.proofs.lemmas.List.Elements.{All-head, All-tail, All-weaker, filter_passes}
+use Rattle.std.proofs.Common.{◌≡◌, ℕ, ◌<◌, Bool, true, false, List, [], ◌∷◌, ◌++◌, filter, find, subst, Option, Some}
+use Rattle.std.proofs.{Common.{refl, sym, ap, ◌∙◌, ⊎_elim, arith}, lemmas.Bool.{cases_order, true≢false}}
+use Rattle.std.proofs.lemmas.{Bool.{false_from_ne_true, Decides.nat_tests}, List.Elements.{All-head, All-tail}}
+use Rattle.std.{proofs.lemmas.List.Elements.{All-weaker, filter_passes}, specs.Prelude.{All, nat_eq, if◌then◌else◌}}
+use Rattle.std.specs.{Str.bytes_eq, Cmp.Lexicographic.bytes_decides}
 use Rattle.dir_values.specs.Digests.{bytes_below, identity_below, same_identity}
-use Rattle.dir_values.specs.declared.digest.Fingerprint.{Fingerprint}
-use Rattle.dir_values.proofs.Orders.{below-trans, below_or_same, same_text, apart, AllPairs-head, AllPairs-tail}
+use Rattle.dir_values.{specs.declared.digest.Fingerprint.Fingerprint, proofs.Orders.{below-trans, below_or_same}}
+use Rattle.dir_values.proofs.Orders.{same_text, apart, AllPairs-head, AllPairs-tail}
 use Rattle.descriptor_doc.specs.declared.descriptor.Descriptor.{Descriptor}
-use Rattle.vote_pool.specs.declared.answers.Keep.TheVariants.{Replaced}
-use Rattle.vote_pool.specs.declared.rank.DescriptorRank.{DescriptorRank}
-use Rattle.vote_pool.specs.Ranks.{rank_of_descriptor, is_same_rank, is_newer}
-use Rattle.vote_pool.specs.Pools.{DescriptorsAscend, descriptor_for, descriptors_with, answer_beside}
-use Rattle.vote_pool.specs.Pools.{answer_to, is_change, pool_after, most_changes}
-use Rattle.vote_pool.specs.Laws.{OthersStay, ChangesAreHeld, ReplacedAreOlder}
+use Rattle.vote_pool.specs.declared.{answers.Keep.TheVariants.Replaced, rank.DescriptorRank.DescriptorRank}
+use Rattle.vote_pool.specs.{Ranks.{rank_of_descriptor, is_same_rank, is_newer}, Pools.DescriptorsAscend}
+use Rattle.vote_pool.specs.Pools.{descriptor_for, descriptors_with, answer_beside, answer_to, is_change, pool_after}
+use Rattle.vote_pool.specs.{Pools.most_changes, Laws.{OthersStay, ChangesAreHeld, ReplacedAreOlder}}
 use Rattle.vote_pool.proofs.Placing.{Before, not_back, not_before_same, all_behind}
 
 -- ---- after a change

@@ -1,26 +1,17 @@
 -- Where a descriptor is put among those that ascend, and which is held of its relay.
-use Rattle.std.proofs.Common.{◌≡◌, ℕ, suc, ◌+◌, ◌<◌, ◌≤◌, Bool, true, false, List, [], ◌∷◌, ◌++◌}
-use Rattle.std.proofs.Common.{length, get_or, filter, find}
-use Rattle.std.proofs.Common.{Option, None, refl, sym, ap, ◌∙◌, subst, ⊎_elim, arith}
-use Rattle.std.specs.Prelude.{All, AllPairs, is_some}
-use Rattle.std.specs.List.{prefix_len}
-use Rattle.std.specs.List.Sorted.{IsPartitionedBy}
-use Rattle.std.specs.Cmp.Lexicographic.{bytes_decides}
-use Rattle.std.proofs.lemmas.Bool.{cases_order, true≢false, false_from_ne_true}
-use Rattle.std.proofs.lemmas.List.Elements.{All-head, All-tail, All-cons, All-append, All-weaker, filter_passes}
-use Rattle.std.proofs.lemmas.List.Kept.{AllPairs-filter}
-use Rattle.std.proofs.lemmas.List.Sums.{prefix_len_is}
+use Rattle.std.proofs.Common.{◌≡◌, ℕ, suc, ◌+◌, ◌<◌, ◌≤◌, Bool, true, false, List, [], ◌∷◌, ◌++◌, length, get_or}
+use Rattle.std.proofs.Common.{filter, find, Option, None, refl, sym, ap, ◌∙◌, subst, ⊎_elim, arith}
+use Rattle.std.proofs.lemmas.{Bool.{cases_order, true≢false, false_from_ne_true}, List.Elements.{All-head, All-tail}}
+use Rattle.std.proofs.lemmas.List.{Elements.{All-cons, All-append, All-weaker, filter_passes}, Kept.AllPairs-filter}
+use Rattle.std.{proofs.lemmas.List.Sums.prefix_len_is, specs.{Prelude.{All, AllPairs, is_some}, List.prefix_len}}
+use Rattle.std.specs.{List.Sorted.IsPartitionedBy, Cmp.Lexicographic.bytes_decides}
 use Rattle.dir_values.specs.Digests.{bytes_below, identity_below, same_identity}
-use Rattle.dir_values.specs.declared.digest.Fingerprint.{Fingerprint}
-use Rattle.dir_values.proofs.Orders.{below-trans, below_or_same, same_text, apart, apart_back}
-use Rattle.dir_values.proofs.Orders.{AllPairs-cons, AllPairs-head, AllPairs-tail}
+use Rattle.dir_values.{specs.declared.digest.Fingerprint.Fingerprint, proofs.Orders.{below-trans, below_or_same}}
+use Rattle.dir_values.proofs.Orders.{same_text, apart, apart_back, AllPairs-cons, AllPairs-head, AllPairs-tail}
 use Rattle.descriptor_doc.specs.declared.descriptor.Descriptor.{Descriptor}
-use Rattle.vote_pool.specs.Lending.{place_of, rank_at, put_at}
-use Rattle.vote_pool.specs.Pools.{DescriptorsAscend, descriptor_for, rank_for, descriptors_with}
-use Rattle.vote_pool.specs.Pools.{answer_for, answer_among, is_change, descriptors_after}
-use Rattle.vote_pool.specs.Ranks.{rank_of_descriptor}
-use Rattle.vote_pool.specs.declared.answers.Keep.{Keep}
-use Rattle.vote_pool.specs.declared.rank.DescriptorRank.{DescriptorRank}
+use Rattle.vote_pool.specs.{Lending.{place_of, rank_at, put_at}, Pools.{DescriptorsAscend, descriptor_for, rank_for}}
+use Rattle.vote_pool.specs.Pools.{descriptors_with, answer_for, answer_among, is_change, descriptors_after}
+use Rattle.vote_pool.specs.{Ranks.rank_of_descriptor, declared.{answers.Keep.Keep, rank.DescriptorRank.DescriptorRank}}
 
 -- ---- the order of identities
 

@@ -1,13 +1,10 @@
 -- What a pool keeps of a descriptor.
 use Rattle.std.specs.Prelude.{◌≡◌, ℕ, List, Option, Some, None}
-use Rattle.dir_values.specs.Ports.{Ports}
-use Rattle.dir_values.specs.declared.digest.Digest2.{Digest2}
+use Rattle.dir_values.specs.{Ports.Ports, declared.digest.Digest2.Digest2}
 use Rattle.descriptor_frame.specs.declared.certificate.EdCert.{EdCert}
 use Rattle.key_port.specs.Answers.{Rules}
-use Rattle.descriptor_doc.specs.Checks.{IsChecked}
-use Rattle.descriptor_doc.specs.declared.descriptor.Descriptor.{Descriptor}
-use Rattle.vote_pool.specs.declared.entry.FamilyMicro.{FamilyMicro}
-use Rattle.vote_pool.specs.declared.kept.KeptDescriptor.{KeptDescriptor}
+use Rattle.descriptor_doc.specs.{Checks.IsChecked, declared.descriptor.Descriptor.Descriptor}
+use Rattle.vote_pool.specs.declared.{entry.FamilyMicro.FamilyMicro, kept.KeptDescriptor.KeptDescriptor}
 use Rattle.vote_pool.specs.Summaries.{IsPrepared}
 
 -- the signer of a certificate, where there is one

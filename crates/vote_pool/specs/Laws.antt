@@ -1,10 +1,8 @@
 -- What a pool holds of each relay, in plain words.
 use Rattle.std.specs.Prelude.{◌≡◌, true, false, Some}
-use Rattle.dir_values.specs.Digests.{same_identity}
-use Rattle.dir_values.specs.declared.digest.Fingerprint.{Fingerprint}
+use Rattle.dir_values.specs.{Digests.same_identity, declared.digest.Fingerprint.Fingerprint}
 use Rattle.descriptor_doc.specs.declared.descriptor.Descriptor.{Descriptor}
-use Rattle.vote_pool.specs.declared.answers.Keep.TheVariants.{Replaced}
-use Rattle.vote_pool.specs.Ranks.{rank_of_descriptor, is_newer}
+use Rattle.vote_pool.specs.{declared.answers.Keep.TheVariants.Replaced, Ranks.{rank_of_descriptor, is_newer}}
 use Rattle.vote_pool.specs.Pools.{Pooled, DescriptorsAscend, descriptor_for, answer_to, is_change, pool_after}
 
 -- What is held of other relays stays, whatever the answer is.

@@ -1,11 +1,9 @@
 -- What the private functions of this crate say.
 use Rattle.std.specs.Prelude.{ℕ, ◌+◌, Bool, List, insert, Option, Some, None, slice_get, slice_set, if◌then◌else◌}
 use Rattle.std.specs.List.{prefix_len}
-use Rattle.dir_values.specs.Digests.{identity_below, same_identity}
-use Rattle.dir_values.specs.declared.digest.Fingerprint.{Fingerprint}
+use Rattle.dir_values.specs.{Digests.{identity_below, same_identity}, declared.digest.Fingerprint.Fingerprint}
 use Rattle.descriptor_doc.specs.declared.descriptor.Descriptor.{Descriptor}
-use Rattle.vote_pool.specs.declared.rank.DescriptorRank.{DescriptorRank}
-use Rattle.vote_pool.specs.Ranks.{rank_of_descriptor}
+use Rattle.vote_pool.specs.{declared.rank.DescriptorRank.DescriptorRank, Ranks.rank_of_descriptor}
 
 -- how many of the descriptors come before an identity
 abbrev pub place_of : List Descriptor → Fingerprint → ℕ

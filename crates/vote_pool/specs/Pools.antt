@@ -1,16 +1,11 @@
 -- The descriptors that an authority holds of relays, one of each, and what keeping one more answers.
-use Rattle.std.specs.Prelude.{◌≡◌, ℕ, ◌+◌, ◌≤◌, ◌<◌, nat_eq, nat_le, Bool, true, false}
-use Rattle.std.specs.Prelude.{List, ◌∷◌, ◌++◌, length, filter, AllPairs}
-use Rattle.std.specs.Prelude.{Option, Some, None, if◌then◌else◌}
-use Rattle.std.specs.List.{find}
-use Rattle.std.specs.Option.{option_map}
-use Rattle.dir_values.specs.Digests.{identity_below, same_identity}
-use Rattle.dir_values.specs.declared.digest.Fingerprint.{Fingerprint}
+use Rattle.std.specs.Prelude.{◌≡◌, ℕ, ◌+◌, ◌≤◌, ◌<◌, nat_eq, nat_le, Bool, true, false, List, ◌∷◌, ◌++◌, length, filter}
+use Rattle.std.specs.{Prelude.{AllPairs, Option, Some, None, if◌then◌else◌}, List.find, Option.option_map}
+use Rattle.dir_values.specs.{Digests.{identity_below, same_identity}, declared.digest.Fingerprint.Fingerprint}
 use Rattle.descriptor_doc.specs.declared.descriptor.Descriptor.{Descriptor}
-use Rattle.vote_pool.specs.declared.answers.Keep.{Keep}
-use Rattle.vote_pool.specs.declared.answers.Keep.TheVariants.{Kept, Replaced, Have, Older, Worn, PoolFull}
-use Rattle.vote_pool.specs.declared.rank.DescriptorRank.{DescriptorRank}
-use Rattle.vote_pool.specs.Ranks.{rank_of_descriptor, is_same_rank, is_newer}
+use Rattle.vote_pool.specs.declared.answers.Keep.{Keep, TheVariants.{Kept, Replaced, Have, Older, Worn, PoolFull}}
+use Rattle.vote_pool.specs.{declared.rank.DescriptorRank.DescriptorRank, Ranks.{rank_of_descriptor, is_same_rank}}
+use Rattle.vote_pool.specs.Ranks.{is_newer}
 
 -- ---- what is held
 

@@ -1,6 +1,5 @@
 -- Which of two descriptors of a relay is the newer.
-use Rattle.std.specs.Prelude.{Bool, ◌&&◌, ◌||◌, nat_lt, nat_eq}
-use Rattle.std.specs.Str.{bytes_eq}
+use Rattle.std.specs.{Prelude.{Bool, ◌&&◌, ◌||◌, nat_lt, nat_eq}, Str.bytes_eq}
 use Rattle.dir_values.specs.Digests.{bytes_below}
 use Rattle.descriptor_doc.specs.declared.descriptor.Descriptor.{Descriptor}
 use Rattle.vote_pool.specs.declared.rank.DescriptorRank.{DescriptorRank}

@@ -1,12 +1,9 @@
 -- What is made of a descriptor (dir-spec, "Computing microdescriptors").
-use Rattle.std.specs.Prelude.{◌≡◌, ℕ, List, Option, Some, None}
-use Rattle.std.specs.Option.{option_map}
-use Rattle.dir_values.specs.Ports.{Ports}
-use Rattle.dir_values.specs.declared.digest.Digest2.{Digest2}
+use Rattle.std.specs.{Prelude.{◌≡◌, ℕ, List, Option, Some, None}, Option.option_map}
+use Rattle.dir_values.specs.{Ports.Ports, declared.digest.Digest2.Digest2}
 use Rattle.exit_summary.specs.Summaries.{summary_of}
 use Rattle.descriptor_doc.specs.declared.descriptor.Descriptor.{Descriptor}
-use Rattle.micro_desc.specs.Makings.{micro_of_descriptor, micro_with_families}
-use Rattle.micro_desc.specs.Texts.{digest_of, micro_text}
+use Rattle.micro_desc.specs.{Makings.{micro_of_descriptor, micro_with_families}, Texts.{digest_of, micro_text}}
 use Rattle.micro_desc.specs.declared.micro.Micro.{Micro}
 use Rattle.vote_pool.specs.declared.entry.FamilyMicro.{FamilyMicro}
 

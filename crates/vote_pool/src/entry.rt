@@ -2,11 +2,9 @@
 ghost use Rattle.std.specs.Prelude.{◌≡◌};
 ghost use Rattle.exit_summary.specs.Summaries.{summary_of};
 ghost use Rattle.key_port.specs.Answers.{rules};
-ghost use Rattle.descriptor_doc.specs.Checks.{IsVerified};
-ghost use Rattle.descriptor_doc.specs.Reading.{IsRead};
-ghost use Rattle.vote_pool.specs.Kept.{IsHeld, kept_of};
-ghost use Rattle.vote_pool.specs.Ranks.{rank_of_descriptor};
-ghost use Rattle.vote_pool.specs.Summaries.{family_digest_of, family_text_of, micro_digest_of, micro_text_of};
+ghost use Rattle.descriptor_doc.specs.{Checks.IsVerified, Reading.IsRead};
+ghost use Rattle.vote_pool.specs.{Kept.{IsHeld, kept_of}, Ranks.rank_of_descriptor, Summaries.family_digest_of};
+ghost use Rattle.vote_pool.specs.Summaries.{family_text_of, micro_digest_of, micro_text_of};
 
 use crate::kept::KeptDescriptor;
 use crate::rank::DescriptorRank;

@@ -1,12 +1,8 @@
 -- Votes that are cast, one after the other.
 use Rattle.std.proofs.Common.{◌≡◌, ℕ, ◌+◌, ◌<◌, List, [], ◌∷◌, ◌++◌, length, get_or, take, Option, sym, ap, ap₂, ◌∙◌}
-use Rattle.std.specs.Prelude.{option_to_list}
-use Rattle.std.specs.List.{flat_map, fold}
-use Rattle.std.proofs.lemmas.Grind.{flat_map-append}
-use Rattle.std.proofs.lemmas.List.{append-nil, take_more}
-use Rattle.std.proofs.lemmas.List.Sums.{fold-append}
-use Rattle.vote_terms.specs.Held.{held, votes_with}
-use Rattle.vote_terms.specs.Votes.{ReadVote}
+use Rattle.std.proofs.lemmas.{Grind.flat_map-append, List.{append-nil, take_more, Sums.fold-append}}
+use Rattle.std.specs.{Prelude.option_to_list, List.{flat_map, fold}}
+use Rattle.vote_terms.specs.{Held.{held, votes_with}, Votes.ReadVote}
 use Rattle.vote_rehearsal.specs.declared.authority.Authority.{Authority}
 
 module _ (cast : Authority → Option ReadVote) where

@@ -1,21 +1,16 @@
 -- Which votes are acceptable under the test scheme.
 use Rattle.std.proofs.Common.{◌≡◌, ℕ, ◌<◌, Bool, true, false, List, refl, subst, arith, ◌⊎◌, inl, inr}
-use Rattle.std.specs.Prelude.{nat_eq, nat_lt, not, ◌&&◌}
 use Rattle.std.proofs.lemmas.Bool.{and_from, and_left, and_right, eq-eqb, le-ltb, lt-ltb, not-true}
+use Rattle.std.specs.Prelude.{nat_eq, nat_lt, not, ◌&&◌}
 use Rattle.dir_bytes.specs.Causes.{Rose}
-use Rattle.dir_values.specs.Digests.{same_identity}
-use Rattle.dir_values.specs.Rosters.{has_member}
-use Rattle.dir_values.specs.declared.digest.Fingerprint.{Fingerprint}
+use Rattle.dir_values.specs.{Digests.same_identity, Rosters.has_member, declared.digest.Fingerprint.Fingerprint}
 use Rattle.key_port.specs.Answers as answers
-use Rattle.key_port.specs.Answers.{Rules}
-use Rattle.key_port.specs.TestScheme.{is_test_signature}
+use Rattle.key_port.specs.{Answers.Rules, TestScheme.is_test_signature}
 use Rattle.authority_certs.specs.Checks.{certifies, crosscertifies, names_its_key}
 use Rattle.authority_certs.specs.declared.checking.CertAnswer.TheVariants as answer
-use Rattle.vote_terms.specs.Acceptable.{IsAcceptable, has_fingerprint, names_signer, signs}
-use Rattle.vote_terms.specs.Votes.{ReadVote}
-use Rattle.vote_doc.specs.Checks.{RefusedBy}
-use Rattle.vote_doc.specs.declared.check.VoteRefusal.{VoteRefusal}
-use Rattle.vote_doc.specs.declared.check.VoteRefusal.TheVariants.{WrongPeriod, UnknownAuthority, Cert, BadSignature, VerifierFault}
+use Rattle.vote_terms.specs.{Acceptable.{IsAcceptable, has_fingerprint, names_signer, signs}, Votes.ReadVote}
+use Rattle.vote_doc.specs.{Checks.RefusedBy, declared.check.VoteRefusal.{VoteRefusal, TheVariants.WrongPeriod}}
+use Rattle.vote_doc.specs.declared.check.VoteRefusal.TheVariants.{UnknownAuthority, Cert, BadSignature, VerifierFault}
 use Rattle.vote_rehearsal.specs.Casting.{is_acceptable}
 
 -- the relations of the test scheme

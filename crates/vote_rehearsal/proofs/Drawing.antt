@@ -1,7 +1,6 @@
 -- Draws, one after the other.
 use Rattle.std.proofs.Common.{◌≡◌, ℕ, zero, suc, ◌+◌, ◌*◌, refl, sym, ap, ◌∙◌, arith}
-use Rattle.vote_rehearsal.specs.Draws.{next_number, number_after}
-use Rattle.vote_rehearsal.specs.Relays.{start_of}
+use Rattle.vote_rehearsal.specs.{Draws.{next_number, number_after}, Relays.start_of}
 
 -- no draw
 pub none_drawn : (number : ℕ) → number_after number 0 ≡ number

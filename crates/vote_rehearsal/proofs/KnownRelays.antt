@@ -1,21 +1,13 @@
 -- The identities of the relays that are known.
 use Rattle.std.proofs.Common.{◌≡◌, ℕ, ◌+◌, Bool, true, false, List, [], ◌∷◌, ◌++◌, refl, sym, ap, ap₂, ◌∙◌, arith}
-use Rattle.std.specs.Prelude.{not, ◌&&◌, ◌||◌, cond, if◌then◌else◌}
-use Rattle.std.specs.List.{list_any}
+use Rattle.std.proofs.lemmas.{Bool.{true≢false, false_from_ne_true}, Cmp.nat_list_cmp_total, List.append-nil}
+use Rattle.std.proofs.lemmas.List.{Folds.list_any-append, FromFn.filter_of_map_range_with_len_more}
+use Rattle.std.{proofs.lemmas.List.{FromFn.map-range_with_len_more, Sums.fold_push}, specs.Prelude.{not, ◌&&◌, ◌||◌}}
+use Rattle.std.specs.{Prelude.{cond, if◌then◌else◌}, List.list_any, Cmp.Lexicographic.{slice_cmp, texts_ties}}
+use Rattle.std.specs.{Cmp.Lexicographic.bytes_decides, Ordering.{eq_by_cmp, nat_cmp}, Str.bytes_eq}
 use Rattle.std.specs.FinSet as set
-use Rattle.std.specs.Cmp.Lexicographic.{slice_cmp, texts_ties, bytes_decides}
-use Rattle.std.specs.Ordering.{eq_by_cmp, nat_cmp}
-use Rattle.std.specs.Str.{bytes_eq}
-use Rattle.std.proofs.lemmas.Bool.{true≢false, false_from_ne_true}
-use Rattle.std.proofs.lemmas.Cmp.{nat_list_cmp_total}
-use Rattle.std.proofs.lemmas.List.{append-nil}
-use Rattle.std.proofs.lemmas.List.Folds.{list_any-append}
-use Rattle.std.proofs.lemmas.List.FromFn.{filter_of_map_range_with_len_more, map-range_with_len_more}
-use Rattle.std.proofs.lemmas.List.Sums.{fold_push}
-use Rattle.vote_rehearsal.specs.Relays.{by_identity, is_repeated, listed_relays, relay_of, relays_below}
-use Rattle.vote_rehearsal.specs.Relays.{with_relay}
-use Rattle.vote_rehearsal.specs.Private.{Known, is_new}
-use Rattle.vote_rehearsal.specs.declared.relay.Relay.{Relay}
+use Rattle.vote_rehearsal.specs.Relays.{by_identity, is_repeated, listed_relays, relay_of, relays_below, with_relay}
+use Rattle.vote_rehearsal.specs.{Private.{Known, is_new}, declared.relay.Relay.Relay}
 
 -- whether a relay has this RSA identity
 abbrev has_identity : List ℕ → Relay → Bool

@@ -1,20 +1,13 @@
 -- The fingerprints of the authorities that vote are a roster.
-use Rattle.std.proofs.Common.{◌≡◌, ℕ, zero, suc, ◌+◌, ◌≤◌, Bool, true, false, List, [], ◌∷◌, ◌++◌, length, map}
-use Rattle.std.proofs.Common.{refl, sym, ap, ◌∙◌, Option, None, Ok, arith, append_assoc}
-use Rattle.std.proofs.Common.{length-append}
-use Rattle.std.specs.Prelude.{◌==◌, ◌||◌, nat_lt, if◌then◌else◌}
-use Rattle.std.specs.List.{fold, range_with_len}
-use Rattle.std.proofs.lemmas.Bool.{le-ltb, ne_eqb}
-use Rattle.std.proofs.lemmas.List.{append-nil, map-append, length-map}
-use Rattle.std.proofs.lemmas.Option.{none-some}
-use Rattle.std.proofs.lemmas.List.FromFn.{length-map-range_with_len, map-range_with_len_more}
-use Rattle.std.proofs.lemmas.List.Sums.{fold_push}
-use Rattle.dir_values.specs.Digests.{same_identity}
-use Rattle.dir_values.specs.Rosters.{first_repeat, has_member, repeat_after, roster_of, unless_twice}
-use Rattle.dir_values.specs.declared.digest.Fingerprint.{Fingerprint}
+use Rattle.std.proofs.Common.{◌≡◌, ℕ, zero, suc, ◌+◌, ◌≤◌, Bool, true, false, List, [], ◌∷◌, ◌++◌, length, map, refl}
+use Rattle.std.proofs.{Common.{sym, ap, ◌∙◌, Option, None, Ok, arith, append_assoc, length-append}, lemmas.Bool.le-ltb}
+use Rattle.std.proofs.lemmas.{Bool.ne_eqb, List.{append-nil, map-append, length-map, FromFn.length-map-range_with_len}}
+use Rattle.std.proofs.lemmas.{List.{FromFn.map-range_with_len_more, Sums.fold_push}, Option.none-some}
+use Rattle.std.specs.{Prelude.{◌==◌, ◌||◌, nat_lt, if◌then◌else◌}, List.{fold, range_with_len}}
+use Rattle.dir_values.specs.{Digests.same_identity, Rosters.{first_repeat, has_member, repeat_after, roster_of}}
+use Rattle.dir_values.specs.{Rosters.unless_twice, declared.digest.Fingerprint.Fingerprint}
 use Rattle.vote_rehearsal.specs.Authorities.{authority_of, has_identity, members_of, voters, with_voter}
-use Rattle.vote_rehearsal.specs.Private.{MakeRoster}
-use Rattle.vote_rehearsal.specs.declared.authority.Authority.{Authority}
+use Rattle.vote_rehearsal.specs.{Private.MakeRoster, declared.authority.Authority.Authority}
 
 -- a member that is not among others repeats none of them
 one_more_member_repeats_none : (before members : List Fingerprint) (one : Fingerprint) → repeat_after before members ≡ None

@@ -1,17 +1,12 @@
 -- The text of a summary, and what is told of a consensus, one step after the other.
 use Rattle.std.proofs.Common.{◌≡◌, ℕ, List, [], ◌++◌, length, true, false, ap, ap₂, ◌∙◌, append_assoc}
-use Rattle.count_terms.specs.Counts.{over}
-use Rattle.count_terms.specs.declared.newest.Newest.TheVariants.{Method33}
+use Rattle.count_terms.specs.{Counts.over, declared.newest.Newest.TheVariants.Method33}
 use Rattle.vote_terms.specs.Votes.{ReadVote}
 use Rattle.consensus_terms.specs.declared.consensus.Consensus.{Consensus}
 use Rattle.compute_terms.specs.Consensuses.{consensus}
-use Rattle.vote_rehearsal.specs.Relays.{ascending_relays}
-use Rattle.vote_rehearsal.specs.Authorities.{voters}
-use Rattle.vote_rehearsal.specs.Casting.{held_votes}
-use Rattle.vote_rehearsal.specs.Summaries.{count_lines, found_in, found_lines, found_of, nothing_found, summary_of}
-use Rattle.vote_rehearsal.specs.declared.authority.Authority.{Authority}
-use Rattle.vote_rehearsal.specs.declared.relay.Relay.{Relay}
-use Rattle.vote_rehearsal.specs.declared.summary.Found.{Found}
+use Rattle.vote_rehearsal.specs.{Relays.ascending_relays, Authorities.voters, Casting.held_votes, Summaries.count_lines}
+use Rattle.vote_rehearsal.specs.Summaries.{found_in, found_lines, found_of, nothing_found, summary_of}
+use Rattle.vote_rehearsal.specs.declared.{authority.Authority.Authority, relay.Relay.Relay, summary.Found.Found}
 
 -- what was appended in two steps
 pub joined : (o a b p q : List ℕ) → p ≡ o ++ a → q ≡ p ++ b → q ≡ o ++ (a ++ b)

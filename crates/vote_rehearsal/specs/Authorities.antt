@@ -1,11 +1,9 @@
 -- The authorities of a rehearsal.
-use Rattle.std.specs.Prelude.{ℕ, Bool, List, [], ◌∷◌, ◌++◌, map, codes, if◌then◌else◌}
-use Rattle.std.specs.List.{fold, list_any, range_with_len}
+use Rattle.std.specs.{Prelude.{ℕ, Bool, List, [], ◌∷◌, ◌++◌, map, codes, if◌then◌else◌}, List.{fold, list_any}}
+use Rattle.std.specs.List.{range_with_len}
 use Rattle.sha1.specs.Sha1.{sha1}
-use Rattle.dir_values.specs.Digests.{same_identity}
-use Rattle.dir_values.specs.declared.digest.Fingerprint.{Fingerprint}
-use Rattle.vote_rehearsal.specs.Relays.{seeded_word}
-use Rattle.vote_rehearsal.specs.declared.authority.Authority.{Authority}
+use Rattle.dir_values.specs.{Digests.same_identity, declared.digest.Fingerprint.Fingerprint}
+use Rattle.vote_rehearsal.specs.{Relays.seeded_word, declared.authority.Authority.Authority}
 
 -- the authority with a number
 abbrev pub authority_of : ℕ → ℕ → Authority

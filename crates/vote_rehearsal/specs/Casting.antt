@@ -1,21 +1,15 @@
 -- The votes of a rehearsal: those of the texts that are read as votes, that are acceptable under the test scheme, and that
 -- are held.
-use Rattle.std.specs.Prelude.{ℕ, nat_eq, nat_lt, Bool, ◌&&◌, List, length, option_to_list}
-use Rattle.std.specs.Prelude.{Option, Some, None, option_and_then, Result, Ok, Err, if◌then◌else◌}
-use Rattle.std.specs.List.{flat_map}
-use Rattle.dir_values.specs.Rosters.{has_member}
-use Rattle.dir_values.specs.declared.digest.Fingerprint.{Fingerprint}
+use Rattle.std.specs.Prelude.{ℕ, nat_eq, nat_lt, Bool, ◌&&◌, List, length, option_to_list, Option, Some, None}
+use Rattle.std.specs.{Prelude.{option_and_then, Result, Ok, Err, if◌then◌else◌}, List.flat_map}
+use Rattle.dir_values.specs.{Rosters.has_member, declared.digest.Fingerprint.Fingerprint}
 use Rattle.frame_terms.specs.declared.fault.ReadRefusal.{ReadRefusal}
 use Rattle.key_port.specs.TestScheme.{is_test_signature}
 use Rattle.authority_certs.specs.Checks.{certifies, crosscertifies}
-use Rattle.vote_terms.specs.Acceptable.{has_fingerprint, names_signer, signs}
-use Rattle.vote_terms.specs.Held.{held}
-use Rattle.vote_terms.specs.Votes.{ReadVote, max_vote}
+use Rattle.vote_terms.specs.{Acceptable.{has_fingerprint, names_signer, signs}, Held.held, Votes.{ReadVote, max_vote}}
 use Rattle.vote_doc.specs.Reading.{vote_of}
-use Rattle.vote_rehearsal.specs.Authorities.{members_of}
-use Rattle.vote_rehearsal.specs.Votes.{period, vote_text}
-use Rattle.vote_rehearsal.specs.declared.authority.Authority.{Authority}
-use Rattle.vote_rehearsal.specs.declared.relay.Relay.{Relay}
+use Rattle.vote_rehearsal.specs.{Authorities.members_of, Votes.{period, vote_text}}
+use Rattle.vote_rehearsal.specs.declared.{authority.Authority.Authority, relay.Relay.Relay}
 
 -- the vote that was read, if one was
 abbrev pub if_read : Result (ReadVote × ℕ) ReadRefusal → Option ReadVote

@@ -2,8 +2,7 @@
 use Rattle.std.specs.Prelude.{ℕ, List, [], ◌∷◌, ◌++◌, None, codes}
 use Rattle.sha1.specs.Sha1.{sha1}
 use Rattle.dir_bytes.specs.FieldTexts.{hex_text}
-use Rattle.dirdoc_grammar.specs.Bodies.{object_text}
-use Rattle.dirdoc_grammar.specs.Writing.{NewItem, items_text}
+use Rattle.dirdoc_grammar.specs.{Bodies.object_text, Writing.{NewItem, items_text}}
 use Rattle.frame_terms.specs.declared.keyword.Keyword.TheVariants as the
 use Rattle.frame_values.specs.Items.{bare, moment_item, with_object}
 use Rattle.key_port.specs.TestScheme.{test_signature}

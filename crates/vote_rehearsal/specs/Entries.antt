@@ -1,17 +1,11 @@
 -- What a vote of a rehearsal says of relays.
-use Rattle.std.specs.Prelude.{ℕ, ◌+◌, ◌/◌, ◌%◌, ◌==◌, Bool, true, false, not, List, [], ◌∷◌}
-use Rattle.std.specs.Prelude.{Some, None, codes, if◌then◌else◌}
-use Rattle.std.specs.List.{flat_map}
-use Rattle.relay_entries.specs.declared.said.Bandwidths.{Bandwidths}
-use Rattle.relay_entries.specs.declared.said.EdOpinion.{EdOpinion}
+use Rattle.std.specs.Prelude.{ℕ, ◌+◌, ◌/◌, ◌%◌, ◌==◌, Bool, true, false, not, List, [], ◌∷◌, Some, None, codes}
+use Rattle.std.specs.{Prelude.if◌then◌else◌, List.flat_map}
+use Rattle.relay_entries.specs.declared.said.{Bandwidths.Bandwidths, EdOpinion.EdOpinion}
 use Rattle.relay_entries.specs.declared.said.EdOpinion.TheVariants as opinion
-use Rattle.flag_rules.specs.Names.{names_of}
-use Rattle.flag_rules.specs.declared.flags.Flags.{Flags}
-use Rattle.vote_terms.specs.declared.entry.EntryFacts.{EntryFacts}
-use Rattle.vote_terms.specs.declared.entry.MicroFacts.{MicroFacts}
-use Rattle.vote_rehearsal.specs.Draws.{drawn_number}
-use Rattle.vote_rehearsal.specs.Relays.{numbered_word}
-use Rattle.vote_rehearsal.specs.declared.relay.Relay.{Relay}
+use Rattle.flag_rules.specs.{Names.names_of, declared.flags.Flags.Flags}
+use Rattle.vote_terms.specs.declared.entry.{EntryFacts.EntryFacts, MicroFacts.MicroFacts}
+use Rattle.vote_rehearsal.specs.{Draws.drawn_number, Relays.numbered_word, declared.relay.Relay.Relay}
 
 -- whether an authority that drew this lists the relay
 abbrev pub lists : ℕ → Bool

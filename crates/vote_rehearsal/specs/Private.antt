@@ -1,12 +1,8 @@
 -- What private functions of this crate say.
-use Rattle.std.specs.Prelude.{◌≡◌, Bool, not, ◌&&◌, List, Ok}
+use Rattle.std.specs.{Prelude.{◌≡◌, Bool, not, ◌&&◌, List, Ok}, Cmp.Lexicographic.slice_cmp, Ordering.nat_cmp}
 use Rattle.std.specs.FinSet as set
-use Rattle.std.specs.Cmp.Lexicographic.{slice_cmp}
-use Rattle.std.specs.Ordering.{nat_cmp}
 use Rattle.dir_values.specs.Rosters.{roster_of}
-use Rattle.vote_rehearsal.specs.Authorities.{members_of}
-use Rattle.vote_rehearsal.specs.declared.authority.Authority.{Authority}
-use Rattle.vote_rehearsal.specs.declared.relay.Relay.{Relay}
+use Rattle.vote_rehearsal.specs.{Authorities.members_of, declared.{authority.Authority.Authority, relay.Relay.Relay}}
 
 -- a set of identities or of keys, by their bytes
 abbrev pub Known : Type 0

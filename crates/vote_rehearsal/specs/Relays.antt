@@ -1,16 +1,12 @@
 -- The relays of a rehearsal.
 use Rattle.std.specs.Prelude.{ℕ, ◌+◌, ◌*◌, Bool, not, ◌||◌, List, [], ◌∷◌, ◌++◌, map, filter, codes, decimal}
-use Rattle.std.specs.List.{fold, list_any, range_with_len}
-use Rattle.std.specs.BTreeMap.{insert_entry}
-use Rattle.std.specs.Cmp.Lexicographic.{slice_cmp}
-use Rattle.std.specs.Ordering.{nat_cmp}
-use Rattle.std.specs.Str.{bytes_eq}
+use Rattle.std.specs.{List.{fold, list_any, range_with_len}, BTreeMap.insert_entry, Cmp.Lexicographic.slice_cmp}
+use Rattle.std.specs.{Ordering.nat_cmp, Str.bytes_eq}
 use Rattle.sha1.specs.Sha1.{sha1}
 use Rattle.sha2.specs.Sha256.{sha256}
 use Rattle.item_terms.specs.Bytes.{hyphen}
 use Rattle.dir_values.specs.Digests.{same_identity}
-use Rattle.vote_rehearsal.specs.Draws.{number_after}
-use Rattle.vote_rehearsal.specs.declared.relay.Relay.{Relay}
+use Rattle.vote_rehearsal.specs.{Draws.number_after, declared.relay.Relay.Relay}
 
 -- ---- names
 

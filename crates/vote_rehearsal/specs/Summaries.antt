@@ -3,18 +3,12 @@
 use Rattle.std.specs.Prelude.{ℕ, List, [], ◌∷◌, ◌++◌, length, count_by, codes, decimal, if◌then◌else◌}
 use Rattle.dir_bytes.specs.FieldTexts.{hex_text}
 use Rattle.item_terms.specs.Bytes.{line_feed, space}
-use Rattle.count_terms.specs.Counts.{over}
-use Rattle.count_terms.specs.declared.newest.Newest.TheVariants.{Method33}
+use Rattle.count_terms.specs.{Counts.over, declared.newest.Newest.TheVariants.Method33}
 use Rattle.vote_terms.specs.Votes.{ReadVote}
-use Rattle.consensus_terms.specs.Routers.{is_listed}
-use Rattle.consensus_terms.specs.Signed.{digests_of}
-use Rattle.consensus_terms.specs.Texts.{unsigned}
-use Rattle.consensus_terms.specs.declared.consensus.Consensus.{Consensus}
-use Rattle.consensus_terms.specs.declared.flavour.Flavour.TheVariants.{Ns, Microdesc}
+use Rattle.consensus_terms.specs.{Routers.is_listed, Signed.digests_of, Texts.unsigned}
+use Rattle.consensus_terms.specs.declared.{consensus.Consensus.Consensus, flavour.Flavour.TheVariants.{Ns, Microdesc}}
 use Rattle.compute_terms.specs.Consensuses.{consensus}
-use Rattle.vote_rehearsal.specs.Relays.{ascending_relays}
-use Rattle.vote_rehearsal.specs.Authorities.{voters}
-use Rattle.vote_rehearsal.specs.Casting.{held_votes}
+use Rattle.vote_rehearsal.specs.{Relays.ascending_relays, Authorities.voters, Casting.held_votes}
 use Rattle.vote_rehearsal.specs.declared.summary.Found.{Found}
 
 -- what is told of a consensus

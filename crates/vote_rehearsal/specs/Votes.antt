@@ -1,23 +1,18 @@
 -- The vote of an authority of a rehearsal (dir-spec, "Vote and consensus status document formats"), signed by the test
 -- scheme.
-use Rattle.std.specs.Prelude.{ℕ, ◌+◌, List, [], ◌++◌, Some, None, codes}
-use Rattle.std.specs.Prelude.{true, false}
+use Rattle.std.specs.Prelude.{ℕ, ◌+◌, List, [], ◌++◌, Some, None, codes, true, false}
 use Rattle.sha1.specs.Sha1.{sha1}
 use Rattle.dir_values.specs.declared.algorithm.Algorithm.TheVariants.{Sha1}
-use Rattle.flag_rules.specs.Names.{names_of}
-use Rattle.flag_rules.specs.declared.flags.Flags.{Flags}
+use Rattle.flag_rules.specs.{Names.names_of, declared.flags.Flags.Flags}
 use Rattle.key_port.specs.TestScheme.{test_signature}
 use Rattle.key_port.specs.declared.verifier.KeyKind.TheVariants as kind
 use Rattle.authority_certs.specs.declared.cert.Cert.{Cert}
-use Rattle.vote_terms.specs.declared.facts.SignatureFacts.{SignatureFacts}
-use Rattle.vote_terms.specs.declared.facts.VoteFacts.{VoteFacts}
+use Rattle.vote_terms.specs.declared.facts.{SignatureFacts.SignatureFacts, VoteFacts.VoteFacts}
 use Rattle.vote_terms.specs.declared.lists.VoteLists.{VoteLists}
 use Rattle.vote_text.specs.Made.{made_signed, signature_rest}
-use Rattle.vote_rehearsal.specs.Relays.{numbered_word}
-use Rattle.vote_rehearsal.specs.Entries.{entries_of, only_method}
+use Rattle.vote_rehearsal.specs.{Relays.numbered_word, Entries.{entries_of, only_method}}
 use Rattle.vote_rehearsal.specs.Certificates.{certificate_bytes, certificate_of}
-use Rattle.vote_rehearsal.specs.declared.authority.Authority.{Authority}
-use Rattle.vote_rehearsal.specs.declared.relay.Relay.{Relay}
+use Rattle.vote_rehearsal.specs.declared.{authority.Authority.Authority, relay.Relay.Relay}
 
 -- 2026-01-01 00:00:00, when the period begins
 abbrev pub period : ℕ

@@ -1,6 +1,5 @@
 // The votes of a rehearsal: read, checked and held.
-ghost use Rattle.std.specs.Prelude.{◌≡◌, ◌≤◌, ◌<◌, ◌+◌, ◌^◌, IfOk, length, option_to_list};
-ghost use Rattle.std.specs.List.{fold};
+ghost use Rattle.std.specs.{Prelude.{◌≡◌, ◌≤◌, ◌<◌, ◌+◌, ◌^◌, IfOk, length, option_to_list}, List.fold};
 ghost use Rattle.vote_terms.specs.Held.{votes_with};
 ghost use Rattle.vote_rehearsal.specs.Casting as casting;
 ghost use Rattle.vote_rehearsal.specs.Private.{MakeRoster};

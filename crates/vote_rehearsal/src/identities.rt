@@ -14,11 +14,9 @@ pub(crate) struct Identities {
 }
 
 impl Model for Identities {
-    ghost use Rattle.std.specs.Prelude.{ℕ, List};
-    ghost use Rattle.std.specs.Coded.{coded_ℕ, coded_list};
-    ghost use Rattle.std.specs.Cmp.Lexicographic.{slice_cmp};
-    ghost use Rattle.std.specs.FinSet as set;
+    ghost use Rattle.std.specs.{Prelude.{ℕ, List}, Coded.{coded_ℕ, coded_list}, Cmp.Lexicographic.slice_cmp};
     ghost use Rattle.std.specs.Ordering.{nat_cmp};
+    ghost use Rattle.std.specs.FinSet as set;
 
     ghost Value = { set.FinSet (slice_cmp nat_cmp) };
 

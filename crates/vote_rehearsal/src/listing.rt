@@ -1,6 +1,5 @@
 // The relays that votes list.
-ghost use Rattle.std.specs.Prelude.{◌≡◌, IfOk, OnOk, if◌then◌else◌};
-ghost use Rattle.std.specs.BTreeMap.{values};
+ghost use Rattle.std.specs.{Prelude.{◌≡◌, IfOk, OnOk, if◌then◌else◌}, BTreeMap.values};
 ghost use Rattle.std.specs.FinSet as set;
 ghost use Rattle.vote_rehearsal.specs.Private.{is_new};
 ghost use Rattle.vote_rehearsal.specs.Relays as relay_terms;

@@ -1,8 +1,7 @@
 // What a rehearsal writes.
 ghost use Rattle.std.specs.Prelude.{◌≡◌, ◌≤◌, ◌++◌, IfOk, OnOk, count_by};
-ghost use Rattle.consensus_terms.specs.Moments.{HasMoments};
+ghost use Rattle.consensus_terms.specs.{Moments.HasMoments, Signed.digests_of};
 ghost use Rattle.consensus_terms.specs.Routers as routers_of;
-ghost use Rattle.consensus_terms.specs.Signed.{digests_of};
 ghost use Rattle.consensus_terms.specs.Texts as texts;
 ghost use Rattle.vote_rehearsal.specs.Summaries as summaries;
 

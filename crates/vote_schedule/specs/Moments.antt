@@ -1,9 +1,7 @@
 -- The moments of a period, by its schedule and the moment from which its consensus is valid (dir-spec, "Voting timeline").
-use Rattle.std.specs.Prelude.{◌≡◌, ℕ, ◌+◌, ◌*◌, ◌-◌, ◌/◌, ◌%◌, ◌≤◌, ◌<◌, nat_le, Option, Some, None}
-use Rattle.std.specs.Prelude.{if◌then◌else◌}
+use Rattle.std.specs.Prelude.{◌≡◌, ℕ, ◌+◌, ◌*◌, ◌-◌, ◌/◌, ◌%◌, ◌≤◌, ◌<◌, nat_le, Option, Some, None, if◌then◌else◌}
 use Rattle.dir_bytes.specs.Causes.{last_moment}
-use Rattle.vote_schedule.specs.Schedules.{Schedule}
-use Rattle.vote_schedule.specs.declared.phase.Phase.{Phase}
+use Rattle.vote_schedule.specs.{Schedules.Schedule, declared.phase.Phase.Phase}
 use Rattle.vote_schedule.specs.declared.phase.Phase.TheVariants as phase
 
 -- when votes are made
@@ -22,10 +20,11 @@ freeze s valid_after = valid_after - s.dist
 abbrev pub fetching_begins : Schedule → ℕ → ℕ
 fetching_begins s valid_after = valid_after - s.dist / 2
 
--- until when a consensus is fresh, and until when it is valid
+-- until when a consensus is fresh: one interval behind its valid-after
 abbrev pub fresh_until : Schedule → ℕ → ℕ
 fresh_until s valid_after = valid_after + s.interval
 
+-- until when a consensus is valid: three intervals behind its valid-after
 abbrev pub valid_until : Schedule → ℕ → ℕ
 valid_until s valid_after = valid_after + 3 * s.interval
 

@@ -2,8 +2,8 @@
 -- timeline"; the limits are own).
 use Rattle.std.specs.Prelude.{◌≡◌, ◌==◌, ℕ, ◌+◌, ◌*◌, ◌%◌, ◌≤◌, ◌<◌, nat_lt, nat_le, not, ◌||◌, Result, Ok, Err}
 use Rattle.std.specs.Prelude.{if◌then◌else◌}
-use Rattle.vote_schedule.specs.declared.config.ScheduleFault.{ScheduleFault}
-use Rattle.vote_schedule.specs.declared.config.ScheduleFault.TheVariants.{Interval, ShortDelay, LongDelays, ShortLife}
+use Rattle.vote_schedule.specs.declared.config.ScheduleFault.{ScheduleFault, TheVariants.{Interval, ShortDelay}}
+use Rattle.vote_schedule.specs.declared.config.ScheduleFault.TheVariants.{LongDelays, ShortLife}
 
 -- three numbers of seconds: between two consensuses, for votes, for signatures
 pub record Schedule : Type 0 where

@@ -1,13 +1,11 @@
 -- What is held of a list of votes is, in plain words, what `IsHeld` says.
-use Rattle.std.proofs.Common.{◌≡◌, ℕ, ◌<◌, ◌⊎◌, Bool, true, false, List, [], ◌∷◌, ◌++◌, length, get_or, zero, suc, refl, sym, ap, ◌∙◌, subst, inl, inr, ⊎_elim, arith}
-use Rattle.std.specs.Prelude.{Contains}
-use Rattle.std.specs.List.{fold}
-use Rattle.std.proofs.lemmas.Bool.{false≢true}
-use Rattle.dir_values.specs.Digests.{identity_below}
-use Rattle.dir_values.specs.declared.digest.Fingerprint.{Fingerprint}
-use Rattle.vote_terms.specs.Votes.{ReadVote, rank_of}
-use Rattle.vote_terms.specs.Held.{outranks, same_authority, votes_with, held, IsHeld, SameMembers, RanksApart, HeldAgree, RanksAgree}
-use Rattle.vote_terms.proofs.Orders.{Below, below_trans, not_itself, not_both, other_way, same_one, above_trans, above_itself, above_other}
+use Rattle.std.proofs.Common.{◌≡◌, ℕ, ◌<◌, ◌⊎◌, Bool, true, false, List, [], ◌∷◌, ◌++◌, length, get_or, zero, suc, refl}
+use Rattle.std.proofs.{Common.{sym, ap, ◌∙◌, subst, inl, inr, ⊎_elim, arith}, lemmas.Bool.false≢true}
+use Rattle.std.specs.{Prelude.Contains, List.fold}
+use Rattle.dir_values.specs.{Digests.identity_below, declared.digest.Fingerprint.Fingerprint}
+use Rattle.vote_terms.specs.{Votes.{ReadVote, rank_of}, Held.{outranks, same_authority, votes_with, held, IsHeld}}
+use Rattle.vote_terms.{specs.Held.{SameMembers, RanksApart, HeldAgree, RanksAgree}, proofs.Orders.{Below, below_trans}}
+use Rattle.vote_terms.proofs.Orders.{not_itself, not_both, other_way, same_one, above_trans, above_itself, above_other}
 
 -- what putting a vote among others comes to at the first of them
 data Step (w : ReadVote) (ws : List ReadVote) (v : ReadVote) : Type 0 where

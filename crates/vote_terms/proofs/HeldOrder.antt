@@ -1,12 +1,8 @@
--- The held votes ascend by identity, and what that says of the vote of an authority.
-use Rattle.std.proofs.Common.{◌≡◌, suc, ◌<◌, Bool, true, false, List, [], ◌∷◌, get_or, None, All, AllPairs, refl, sym, ap, ◌∙◌, inl, inr, arith}
+-- The held votes ascend by identity.
+use Rattle.std.proofs.Common.{suc, List, [], ◌∷◌, get_or, All, refl, sym, ap, ◌∙◌, arith}
 use Rattle.std.proofs.lemmas.List.Kept.{AllPairs-cons}
-use Rattle.std.proofs.lemmas.Bool.{false≢true}
-use Rattle.dir_values.specs.declared.digest.Fingerprint.{Fingerprint}
-use Rattle.dir_values.specs.Digests.{identity_below, same_identity}
-use Rattle.vote_terms.specs.Votes.{ReadVote}
-use Rattle.vote_terms.specs.Held.{votes_with, held, rival, vote_of, same_authority, VotesAscend, HeldAscend}
-use Rattle.vote_terms.proofs.Orders.{Below, below_trans, not_itself, other_way, same_one}
+use Rattle.dir_values.specs.Digests.{identity_below}
+use Rattle.vote_terms.{specs.{Votes.ReadVote, Held.{votes_with, held, VotesAscend, HeldAscend}}, proofs.Orders.Below}
 use Rattle.vote_terms.proofs.HeldLaw.{In, in_to, at_index, Ascends, ascends, stands}
 
 -- a vote comes before another
@@ -39,15 +35,3 @@ placed_ascends votes v a = to_pairs (votes_with votes v) (ascends votes v (from_
 
 pub held_ascend : HeldAscend
 held_ascend list = to_pairs (held list) (stands list).apart
-
--- ---- the vote of an authority
-
--- no vote is of an authority that comes before all of them
-none_by : (b : Bool) (w : ReadVote) (ws : List ReadVote) (a : Fingerprint) → same_identity w.says.identity a ≡ b → Below a w.says.identity
-    → vote_of ws a ≡ None → vote_of (w ∷ ws) a ≡ None
-none_by true w ws a e lt more = absurd (not_itself a (ap (λ (y : Fingerprint). identity_below a y) (sym (same_one w.says.identity a e)) ∙ lt))
-none_by false w ws a e lt more = rw e more
-
-none_of : (votes : List ReadVote) (a : Fingerprint) → ((x : ReadVote) → In x votes → Below a x.says.identity) → vote_of votes a ≡ None
-none_of [] a h = refl
-none_of (w ∷ ws) a h = none_by _ w ws a refl (h w (inl refl)) (none_of ws a (λ x i. h x (inr i)))

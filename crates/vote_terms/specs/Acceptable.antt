@@ -1,19 +1,15 @@
 -- When a vote is acceptable, and by which clause it is refused (dir-spec, "Creating key certificates"; "Vote and consensus
 -- status document formats").
 use Rattle.std.specs.Prelude.{◌≡◌, ◌⊎◌, ℕ, ◌+◌, ◌≤◌, nat_eq, Bool, true, false, ◌&&◌, List, take, All, Some, slice_get}
+use Rattle.std.specs.Str.{bytes_eq}
 use Rattle.sha1.specs.Sha1.{sha1}
 use Rattle.sha2.specs.Sha256.{sha256}
-use Rattle.dir_values.specs.declared.algorithm.Algorithm.{Algorithm}
-use Rattle.dir_values.specs.declared.algorithm.Algorithm.TheVariants.{Sha1, Sha256}
-use Rattle.dir_values.specs.declared.digest.Fingerprint.{Fingerprint}
-use Rattle.std.specs.Str.{bytes_eq}
-use Rattle.dir_values.specs.Digests.{same_identity}
-use Rattle.dir_values.specs.Rosters.{has_member}
+use Rattle.dir_values.specs.declared.algorithm.Algorithm.{Algorithm, TheVariants.{Sha1, Sha256}}
+use Rattle.dir_values.specs.{declared.digest.Fingerprint.Fingerprint, Digests.same_identity, Rosters.has_member}
 use Rattle.key_port.specs.Answers.{Relation, Rules, ExactlyOneHolds}
 use Rattle.key_port.specs.declared.verifier.KeyKind.TheVariants as kind
 use Rattle.authority_certs.specs.Checks.{IsCurrent, IsCertified, certifies, crosscertifies, names_its_key}
-use Rattle.vote_terms.specs.Votes.{ReadVote}
-use Rattle.vote_terms.specs.declared.word.VoteWord.{VoteWord}
+use Rattle.vote_terms.specs.{Votes.ReadVote, declared.word.VoteWord.VoteWord}
 use Rattle.vote_terms.specs.declared.word.VoteWord.TheVariants as word
 
 -- ---- the signature

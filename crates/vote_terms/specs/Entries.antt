@@ -1,12 +1,9 @@
 -- What an entry of a vote says of its relay (dir-spec, "Vote and consensus status document formats").
-use Rattle.std.specs.Prelude.{ℕ, nat_eq, Bool, true, ◌≡◌, List, AllPairs, Option}
-use Rattle.std.specs.List.{find, list_any}
+use Rattle.std.specs.{Prelude.{ℕ, nat_eq, Bool, true, ◌≡◌, List, AllPairs, Option}, List.{find, list_any}}
 use Rattle.std.specs.Option.{option_and_then, option_map}
-use Rattle.dir_values.specs.declared.digest.Digest2.{Digest2}
-use Rattle.dir_values.specs.Digests.{identity_below}
+use Rattle.dir_values.specs.{declared.digest.Digest2.Digest2, Digests.identity_below}
 use Rattle.relay_entries.specs.declared.said.Bandwidths.{Bandwidths}
-use Rattle.vote_terms.specs.declared.entry.EntryFacts.{EntryFacts}
-use Rattle.vote_terms.specs.declared.entry.MicroFacts.{MicroFacts}
+use Rattle.vote_terms.specs.declared.entry.{EntryFacts.EntryFacts, MicroFacts.MicroFacts}
 
 -- the first of its further addresses, where it has one
 abbrev pub first_address : EntryFacts → Option (List ℕ)

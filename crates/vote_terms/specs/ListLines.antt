@@ -1,18 +1,13 @@
 -- What lines say that are lists of values, in a vote's preamble and in what a vote is made of (dir-spec, "Vote and consensus status document formats").
 use Rattle.std.specs.Prelude.{ℕ, ℤ, List, option_map, Option, None}
-use Rattle.frame_terms.specs.declared.document.Taken.{Taken}
-use Rattle.frame_terms.specs.declared.keyword.Keyword.TheVariants.{ClientVersions, ServerVersions, Params}
-use Rattle.frame_terms.specs.declared.keyword.Keyword.TheVariants.{RecommendedClientProtocols}
-use Rattle.frame_terms.specs.declared.keyword.Keyword.TheVariants.{RecommendedRelayProtocols}
-use Rattle.frame_terms.specs.declared.keyword.Keyword.TheVariants.{RequiredClientProtocols, RequiredRelayProtocols}
-use Rattle.frame_values.specs.declared.found.Span.{Span}
-use Rattle.frame_values.specs.declared.values.Value.{Value}
-use Rattle.frame_values.specs.Parts.{part}
-use Rattle.frame_values.specs.Values.{item_at, text_if}
+use Rattle.frame_terms.specs.declared.{document.Taken.Taken, keyword.Keyword.TheVariants.ClientVersions}
+use Rattle.frame_terms.specs.declared.keyword.Keyword.TheVariants.{ServerVersions, Params, RecommendedClientProtocols}
+use Rattle.frame_terms.specs.declared.keyword.Keyword.TheVariants.{RecommendedRelayProtocols, RequiredClientProtocols}
+use Rattle.frame_terms.specs.declared.keyword.Keyword.TheVariants.{RequiredRelayProtocols}
+use Rattle.frame_values.specs.{declared.{found.Span.Span, values.Value.Value}, Parts.part, Values.{item_at, text_if}}
 use Rattle.value_groups.specs.Listed.{params_in, protocols_in, versions_in}
 use Rattle.list_values.specs.declared.named.Named.{Named}
-use Rattle.vote_terms.specs.declared.lists.VoteLists.{VoteLists}
-use Rattle.vote_terms.specs.declared.list_lines.ListSpans.{ListSpans}
+use Rattle.vote_terms.specs.declared.{lists.VoteLists.VoteLists, list_lines.ListSpans.ListSpans}
 
 -- the lists of a document that has none
 abbrev pub no_lists : ListSpans

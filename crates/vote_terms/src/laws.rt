@@ -1,6 +1,6 @@
 // Laws of the definitions.
-ghost use Rattle.vote_terms.specs.Acceptable.{VerifiedAreNotRefused};
-ghost use Rattle.vote_terms.specs.Held.{HeldIsHeld, HeldAscend, RanksAgree, HeldAgree};
+ghost use Rattle.vote_terms.specs.{Acceptable.VerifiedAreNotRefused, Held.{HeldIsHeld, HeldAscend, RanksAgree}};
+ghost use Rattle.vote_terms.specs.Held.{HeldAgree};
 
 /// What is held of a list of votes is, for each authority, its vote of the greatest rank, and of different votes of
 /// that rank the first.

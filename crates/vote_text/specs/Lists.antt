@@ -4,9 +4,7 @@ use Rattle.std.specs.Prelude.{ℤ, List, ◌++◌, Option, option_map}
 use Rattle.dirdoc_grammar.specs.Writing.{NewItem}
 use Rattle.frame_terms.specs.declared.keyword.Keyword.TheVariants as the
 use Rattle.frame_values.specs.Items.{item_if}
-use Rattle.list_values.specs.declared.named.Named.{Named}
-use Rattle.list_values.specs.Params.{params_text}
-use Rattle.list_values.specs.Protocols.{protocols_text}
+use Rattle.list_values.specs.{declared.named.Named.Named, Params.params_text, Protocols.protocols_text}
 use Rattle.list_values.specs.VersionLists.{versions_text}
 use Rattle.vote_terms.specs.declared.lists.VoteLists.{VoteLists}
 

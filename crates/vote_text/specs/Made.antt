@@ -2,14 +2,11 @@
 -- and consensus status document formats").
 use Rattle.std.specs.Prelude.{ℕ, List, [], ◌∷◌, ◌++◌, codes}
 use Rattle.item_terms.specs.Bytes.{line_feed}
-use Rattle.dirdoc_grammar.specs.Bodies.{object_text}
-use Rattle.dirdoc_grammar.specs.Writing.{item_text, items_text}
+use Rattle.dirdoc_grammar.specs.{Bodies.object_text, Writing.{item_text, items_text}}
 use Rattle.frame_terms.specs.declared.keyword.Keyword.TheVariants as the
 use Rattle.frame_values.specs.Items.{bare}
-use Rattle.vote_terms.specs.declared.facts.SignatureFacts.{SignatureFacts}
-use Rattle.vote_terms.specs.declared.facts.VoteFacts.{VoteFacts}
-use Rattle.vote_text.specs.Entries.{entries_items}
-use Rattle.vote_text.specs.Texts.{authority_items, preamble_items, signer_text}
+use Rattle.vote_terms.specs.declared.facts.{SignatureFacts.SignatureFacts, VoteFacts.VoteFacts}
+use Rattle.vote_text.specs.{Entries.entries_items, Texts.{authority_items, preamble_items, signer_text}}
 
 -- The text that is signed: through the one space after `directory-signature`. Of what the vote says neither its
 -- certificate nor its signature is in it, but the certificate's bytes.

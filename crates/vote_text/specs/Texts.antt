@@ -2,20 +2,16 @@
 -- consensus status document formats"; "Creating key certificates").
 use Rattle.std.specs.Prelude.{ℕ, List, [], ◌∷◌, ◌++◌, option_map, codes, decimal}
 use Rattle.dir_bytes.specs.FieldTexts.{hex_text, address_text}
-use Rattle.dir_values.specs.declared.algorithm.Algorithm.{Algorithm}
-use Rattle.dir_values.specs.declared.algorithm.Algorithm.TheVariants.{Sha1, Sha256}
-use Rattle.item_terms.specs.Bytes.{space}
-use Rattle.dir_values.specs.FlagSets.{set_text}
+use Rattle.dir_values.specs.{declared.algorithm.Algorithm.{Algorithm, TheVariants.{Sha1, Sha256}}, FlagSets.set_text}
 use Rattle.dir_values.specs.Numbers.{numbers_text}
+use Rattle.item_terms.specs.Bytes.{space}
 use Rattle.dirdoc_grammar.specs.Writing.{NewItem, items_text}
 use Rattle.frame_terms.specs.declared.keyword.Keyword.TheVariants as the
 use Rattle.authority_certs.specs.Texts.{cert_items}
 use Rattle.value_groups.specs.Values.{random_text}
-use Rattle.vote_terms.specs.declared.facts.SignatureFacts.{SignatureFacts}
-use Rattle.vote_terms.specs.declared.facts.VoteFacts.{VoteFacts}
+use Rattle.vote_terms.specs.declared.facts.{SignatureFacts.SignatureFacts, VoteFacts.VoteFacts}
 use Rattle.frame_values.specs.Items.{bare, with_object, item_if, moment_item}
-use Rattle.vote_text.specs.Entries.{entries_items}
-use Rattle.vote_text.specs.Lists.{param_items, protocol_items, version_items}
+use Rattle.vote_text.specs.{Entries.entries_items, Lists.{param_items, protocol_items, version_items}}
 
 -- ---- the rests of lines
 

@@ -2,8 +2,7 @@
 ghost use Rattle.std.specs.Prelude.{◌≡◌, ◌++◌, OnOk, OnErr, take, vec_len, option_map};
 ghost use Rattle.dirdoc_grammar.specs.Writing.{items_text};
 ghost use Rattle.frame_values.specs.Items as items;
-ghost use Rattle.list_values.specs.Protocols.{protocols_text};
-ghost use Rattle.list_values.specs.VersionLists.{versions_text};
+ghost use Rattle.list_values.specs.{Protocols.protocols_text, VersionLists.versions_text};
 ghost use Rattle.vote_text.specs.Lists as texts;
 
 use dir_bytes::Memory;

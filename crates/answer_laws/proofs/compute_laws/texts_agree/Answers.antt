@@ -1,6 +1,5 @@
 use Rattle.std.proofs.Common.{List, ap}
-use Rattle.vote_terms.specs.Votes.{ReadVote}
-use Rattle.vote_terms.proofs.HeldLaw.{held_agree}
+use Rattle.vote_terms.{specs.Votes.ReadVote, proofs.HeldLaw.held_agree}
 use Rattle.compute_terms.specs.Consensuses.{consensus}
 use Rattle.consensus_terms.specs.Texts.{unsigned}
 use Rattle.answer_laws.proofs.compute_laws.texts_agree.Goals as goal

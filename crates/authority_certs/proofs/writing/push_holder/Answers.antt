@@ -1,10 +1,8 @@
-use Rattle.std.proofs.Common.{◌∙◌, ◌++◌, ◌∷◌, [], List, ℕ, ap, sym}
-use Rattle.std.specs.Prelude.{codes}
+use Rattle.std.{proofs.Common.{◌∙◌, ◌++◌, ◌∷◌, [], List, ℕ, ap, sym}, specs.Prelude.codes}
 use Rattle.dir_bytes.specs.FieldTexts.{hex_text}
 use Rattle.dirdoc_grammar.specs.Writing.{item_text, items_text}
 use Rattle.frame_terms.specs.declared.keyword.Keyword.TheVariants as the
-use Rattle.frame_values.specs.Items.{bare, item_if}
-use Rattle.frame_values.proofs.ItemsTexts.{link, last, sections}
+use Rattle.frame_values.{specs.Items.{bare, item_if}, proofs.ItemsTexts.{link, last, sections}}
 use Rattle.authority_certs.proofs.writing.push_holder.Goals as goal
 
 pub returns-clause-ok : goal.returns-clause-ok

@@ -1,9 +1,7 @@
-use Rattle.std.proofs.Common.{◌++◌, [], List, ℕ}
-use Rattle.std.specs.Prelude.{codes}
+use Rattle.std.{proofs.Common.{◌++◌, [], List, ℕ}, specs.Prelude.codes}
 use Rattle.dirdoc_grammar.specs.Writing.{item_text}
 use Rattle.frame_terms.specs.declared.keyword.Keyword.TheVariants as the
-use Rattle.frame_values.specs.Items.{moment_item, with_object}
-use Rattle.frame_values.proofs.ItemsTexts.{link, last}
+use Rattle.frame_values.{specs.Items.{moment_item, with_object}, proofs.ItemsTexts.{link, last}}
 use Rattle.authority_certs.proofs.writing.push_keys.Goals as goal
 
 pub returns-clause-ok : goal.returns-clause-ok

@@ -1,6 +1,4 @@
-use Rattle.authority_daemon.specs.Commands.{may}
-use Rattle.authority_daemon.specs.Moments.{telling_of}
-use Rattle.authority_daemon.proofs.Choosing.{run_completes}
+use Rattle.authority_daemon.{specs.{Commands.may, Moments.telling_of}, proofs.Choosing.run_completes}
 use Rattle.authority_daemon.proofs.program.run.Goals as goal
 
 pub returns-clause-complete : goal.returns-clause-complete

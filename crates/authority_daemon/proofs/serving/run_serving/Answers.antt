@@ -2,9 +2,8 @@ use Rattle.std.proofs.Common.{ap, refl, rules, ◌≡◌}
 use Rattle.daemon_words.specs.declared.stop.Stop.TheVariants as stop
 use Rattle.exit_status.specs.declared.status.Refusal.{Refusal}
 use Rattle.exit_status.specs.declared.status.Status.TheVariants as status
-use Rattle.authority_daemon.specs.Commands.{may}
-use Rattle.authority_daemon.specs.Moments.{telling_of}
-use Rattle.authority_daemon.proofs.ServedRuns.{first_rose, first_told, has_refused, has_served, none_served}
+use Rattle.authority_daemon.{specs.{Commands.may, Moments.telling_of}, proofs.ServedRuns.{first_rose, first_told}}
+use Rattle.authority_daemon.proofs.ServedRuns.{has_refused, has_served, none_served}
 use Rattle.authority_daemon.proofs.serving.run_serving.Goals as goal
 
 pub returns-in-Ok-serve_station-clause-run : goal.returns-in-Ok-serve_station-clause-run

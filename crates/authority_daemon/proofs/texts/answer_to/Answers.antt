@@ -1,8 +1,6 @@
 use Rattle.std.proofs.Common.{◌<◌, length, refl, rules}
-use Rattle.authority_daemon.specs.Commands.{asks_clock, may}
-use Rattle.authority_daemon.proofs.Asking.{behind_stay, counted, first_is, none_asked, tells, vote_answered}
-use Rattle.authority_daemon.proofs.Asking.{vote_unasked}
-use Rattle.authority_daemon.proofs.Ending.{on_true}
+use Rattle.authority_daemon.{specs.Commands.{asks_clock, may}, proofs.Asking.{behind_stay, counted, first_is}}
+use Rattle.authority_daemon.proofs.{Asking.{none_asked, tells, vote_answered, vote_unasked}, Ending.on_true}
 use Rattle.authority_daemon.proofs.texts.answer_to.Goals as goal
 
 pub returns-in-MakeVote-clause-answer : goal.returns-in-MakeVote-clause-answer

@@ -1,11 +1,9 @@
-use Rattle.std.proofs.Common.{rules, refl, ◌≡◌, List, ℕ, Option, Some, None, ap, subst}
-use Rattle.std.specs.Io.KnownBytes.{Appends}
+use Rattle.std.{proofs.Common.{rules, refl, ◌≡◌, List, ℕ, Option, Some, None, ap, subst}, specs.Io.KnownBytes.Appends}
 use Rattle.std.specs.Prelude.{take}
 use Rattle.daemon_words.specs.declared.stop.Stop.TheVariants as stop
-use Rattle.authority_daemon.specs.Commands.{Answers, may}
-use Rattle.authority_daemon.specs.Runs.{first_count}
-use Rattle.authority_daemon.proofs.Ending.{as_refused, done, failed, gathered, has_ended, is_within, over_input, refused}
-use Rattle.authority_daemon.proofs.Ending.{tells_refusal, told_at_once}
+use Rattle.authority_daemon.{specs.{Commands.{Answers, may}, Runs.first_count}, proofs.Ending.{as_refused, done}}
+use Rattle.authority_daemon.proofs.Ending.{failed, gathered, has_ended, is_within, over_input, refused, tells_refusal}
+use Rattle.authority_daemon.proofs.Ending.{told_at_once}
 use Rattle.authority_daemon.proofs.texts.run_over.Goals as goal
 
 pub returns-in-Done-clause-run : goal.returns-in-Done-clause-run

@@ -1,8 +1,6 @@
 use Rattle.std.proofs.Common.{inr, subst}
 use Rattle.item_terms.specs.Lines.{lines}
-use Rattle.bandwidth_file.specs.Files.{first_fault}
-use Rattle.bandwidth_file.specs.Refusals.{RefusedAs}
-use Rattle.bandwidth_file.proofs.OpenInputs.{lines_first}
+use Rattle.bandwidth_file.{specs.{Files.first_fault, Refusals.RefusedAs}, proofs.OpenInputs.lines_first}
 use Rattle.bandwidth_file.proofs.front.not_ended.Goals as goal
 
 pub returns-in_default : goal.returns-in_default

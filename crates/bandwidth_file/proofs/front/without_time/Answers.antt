@@ -1,9 +1,6 @@
 use Rattle.std.proofs.Common.{ℕ, Some, ap, inl, subst, sym, ◌∙◌}
-use Rattle.bandwidth_file.specs.Lines.{at}
-use Rattle.bandwidth_file.specs.Refusals.{RefusedAs}
-use Rattle.bandwidth_file.specs.declared.refusal.BandReason.TheVariants.{Timestamp}
-use Rattle.bandwidth_file.specs.Fronts.{open_fault}
-use Rattle.bandwidth_file.proofs.OpenInputs.{lines_first, timeless_on}
+use Rattle.bandwidth_file.specs.{Lines.at, Refusals.RefusedAs, declared.refusal.BandReason.TheVariants.Timestamp}
+use Rattle.bandwidth_file.{specs.Fronts.open_fault, proofs.OpenInputs.{lines_first, timeless_on}}
 use Rattle.bandwidth_file.proofs.front.without_time.Goals as goal
 
 pub returns-then-place-bytes : goal.returns-then-place-bytes

@@ -1,7 +1,6 @@
 use Rattle.std.proofs.Common.{rules, ◌≡◌, Bool, false, Some, None, ap, ◌∙◌, if◌then◌else◌}
 use Rattle.bandwidth_file.specs.declared.refusal.BandReason.TheVariants as reason
-use Rattle.bandwidth_file.specs.Lines.{at}
-use Rattle.bandwidth_file.proofs.Rows.{many_is, has_one_more}
+use Rattle.bandwidth_file.{specs.Lines.at, proofs.Rows.{many_is, has_one_more}}
 use Rattle.bandwidth_file.proofs.reading.put_row.Goals as goal
 
 pub returns-clause-ok : goal.returns-clause-ok

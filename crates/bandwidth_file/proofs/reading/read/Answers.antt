@@ -1,7 +1,5 @@
-use Rattle.std.proofs.Common.{ℕ, ◌+◌, ap, subst, sym, ◌≤◌, length}
-use Rattle.std.proofs.lemmas.Result.{err_from_is_err_and}
-use Rattle.bandwidth_file.specs.Lending.{line_seen}
-use Rattle.bandwidth_file.proofs.Lineage.{read_one, refused_there, ends_inside}
+use Rattle.std.proofs.{Common.{ℕ, ◌+◌, ap, subst, sym, ◌≤◌, length}, lemmas.Result.err_from_is_err_and}
+use Rattle.bandwidth_file.{specs.Lending.line_seen, proofs.Lineage.{read_one, refused_there, ends_inside}}
 use Rattle.bandwidth_file.proofs.reading.read.Goals as goal
 
 pub returns-in_err-take-clause-fault : goal.returns-in_err-take-clause-fault

@@ -1,5 +1,4 @@
-use Rattle.std.proofs.Common.{◌≡◌, ◌++◌, drop}
-use Rattle.std.specs.List.{flat_map}
+use Rattle.std.{proofs.Common.{◌≡◌, ◌++◌, drop}, specs.List.flat_map}
 use Rattle.bandwidth_file.specs.Texts.{header_text}
 use Rattle.bandwidth_file.proofs.text.push_headers.Given as goal
 

@@ -1,5 +1,4 @@
-use Rattle.std.proofs.Common.{ℕ, length, take, sym, ap, ◌∙◌, arith}
-use Rattle.std.proofs.lemmas.List.{take_all}
+use Rattle.std.proofs.{Common.{ℕ, length, take, sym, ap, ◌∙◌, arith}, lemmas.List.take_all}
 use Rattle.dirdoc_grammar.proofs.FirstByte.{before_found, before_none}
 use Rattle.blank_lines.proofs.keywords.line_text.Goals as goal
 

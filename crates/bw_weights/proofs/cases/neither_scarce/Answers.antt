@@ -1,5 +1,4 @@
-use Rattle.std.proofs.Common.{arith}
-use Rattle.std.proofs.lemmas.Int.{to_z-of_z}
+use Rattle.std.proofs.{Common.arith, lemmas.Int.to_z-of_z}
 use Rattle.bw_weights.proofs.Numerators.{all_but_both, twice_less_two}
 use Rattle.bw_weights.proofs.cases.neither_scarce.Goals as goal
 

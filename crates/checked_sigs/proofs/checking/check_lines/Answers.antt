@@ -1,9 +1,7 @@
-use Rattle.std.proofs.Common.{◌+◌, ◌≤◌, ◌∙◌, arith}
-use Rattle.std.proofs.lemmas.Result.{err_from_is_err_and}
+use Rattle.std.proofs.{Common.{◌+◌, ◌≤◌, ◌∙◌, arith}, lemmas.Result.err_from_is_err_and}
 use Rattle.key_port.specs.Answers.{rules}
-use Rattle.checked_sigs.specs.Asking.{offered_by}
-use Rattle.checked_sigs.specs.Checks.{Tally, tally_of}
-use Rattle.checked_sigs.proofs.Telling.{fails_lines, few_more, no_fault, told_next}
+use Rattle.checked_sigs.{specs.{Asking.offered_by, Checks.{Tally, tally_of}}, proofs.Telling.{fails_lines, few_more}}
+use Rattle.checked_sigs.proofs.Telling.{no_fault, told_next}
 use Rattle.checked_sigs.proofs.checking.check_lines.Goals as goal
 
 pub returns-in_err-tell_line-clause-refused : goal.returns-in_err-tell_line-clause-refused

@@ -1,17 +1,12 @@
 use Rattle.std.proofs.Common.{◌≡◌, ◌<◌, ◌∙◌, List, length, get_or, ap, sym, subst, arith}
 use Rattle.key_port.specs.Answers.{rules}
-use Rattle.vote_terms.specs.Votes.{ReadVote}
-use Rattle.vote_terms.specs.Held.{votes_with}
-use Rattle.vote_terms.specs.Acceptable.{IsAcceptable}
+use Rattle.vote_terms.specs.{Votes.ReadVote, Held.votes_with, Acceptable.IsAcceptable}
 use Rattle.vote_doc.specs.Holdings.{Holding}
 use Rattle.vote_doc.proofs.Placing as placing
 use Rattle.compute_command.proofs.Queues.{within, first, others, all_with_one_more_vote, one_more_held}
-use Rattle.compute_command.proofs.VoteAsking.{accepted_more, refused_at}
-use Rattle.compute_command.proofs.Faults.{no_fault}
-use Rattle.compute_command.proofs.Refusing.{stops_at}
-use Rattle.compute_command.specs.Accepting.{StopsAt}
+use Rattle.compute_command.proofs.{VoteAsking.{accepted_more, refused_at}, Faults.no_fault, Refusing.stops_at}
+use Rattle.compute_command.specs.{Accepting.StopsAt, declared.refusal.AcceptRefusal.AcceptRefusal}
 use Rattle.daemon_words.specs.declared.stop.Stop.TheVariants as stop
-use Rattle.compute_command.specs.declared.refusal.AcceptRefusal.{AcceptRefusal}
 use Rattle.compute_command.proofs.accepting.accept.Goals as goal
 
 pub returns-in-Err-clause-accepts : goal.returns-in-Err-clause-accepts

@@ -1,8 +1,6 @@
-use Rattle.std.proofs.Common.{◌≡◌, ◌≤◌, take, drop, length, vec_len}
-use Rattle.std.specs.Prelude.{All}
+use Rattle.std.{proofs.Common.{◌≡◌, ◌≤◌, take, drop, length, vec_len}, specs.Prelude.All}
 use Rattle.key_port.specs.Answers.{rules}
-use Rattle.vote_terms.specs.Held.{held}
-use Rattle.vote_terms.specs.Acceptable.{IsAcceptable}
+use Rattle.vote_terms.specs.{Held.held, Acceptable.IsAcceptable}
 use Rattle.compute_command.specs.Asked.{AsksAccepted}
 use Rattle.compute_command.proofs.accepting.accept.Given as goal
 

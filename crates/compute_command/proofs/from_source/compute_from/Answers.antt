@@ -1,9 +1,8 @@
-use Rattle.std.proofs.Common.{arith}
-use Rattle.std.proofs.lemmas.Result.{err_from_is_err_and}
+use Rattle.std.proofs.{Common.arith, lemmas.Result.err_from_is_err_and}
 use Rattle.key_port.specs.Answers.{rules}
-use Rattle.compute_command.proofs.Arrivals.{rest_of}
-use Rattle.compute_command.proofs.SourceAsking.{asked_calc, asked_end, asked_text}
-use Rattle.compute_command.proofs.Sources.{calc_told, end_answers, end_tells, end_told, not_written, text_written, whole_few}
+use Rattle.compute_command.proofs.{Arrivals.rest_of, SourceAsking.{asked_calc, asked_end, asked_text}}
+use Rattle.compute_command.proofs.Sources.{calc_told, end_answers, end_tells, end_told, not_written, text_written}
+use Rattle.compute_command.proofs.Sources.{whole_few}
 use Rattle.compute_command.proofs.from_source.compute_from.Goals as goal
 
 pub end-requires : goal.end-requires

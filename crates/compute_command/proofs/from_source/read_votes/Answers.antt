@@ -1,11 +1,8 @@
 use Rattle.std.proofs.Common.{◌++◌, ◌+◌, [], IfErr, Result, Ok, Err, arith, length-append, length-take, refl}
 use Rattle.std.proofs.Common.{rules as found, take}
 use Rattle.key_port.specs.Answers.{rules}
-use Rattle.dir_bytes.specs.Streams.{TakesAtMost}
-use Rattle.dir_bytes.proofs.Appending.{consumes_more}
-use Rattle.compute_command.proofs.VoteAsking.{asked_none}
-use Rattle.compute_command.proofs.Asking.{asks_bytes}
-use Rattle.compute_command.proofs.SourceAsking.{asked_failed, asked_long}
+use Rattle.dir_bytes.{specs.Streams.TakesAtMost, proofs.Appending.consumes_more}
+use Rattle.compute_command.proofs.{VoteAsking.asked_none, Asking.asks_bytes, SourceAsking.{asked_failed, asked_long}}
 use Rattle.compute_command.proofs.Sources.{keeps_most, keeps_taken, none_taken, takes_most, tells_none, too_long}
 use Rattle.compute_command.proofs.from_source.read_votes.Goals as goal
 

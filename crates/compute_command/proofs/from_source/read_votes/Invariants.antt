@@ -1,9 +1,6 @@
-use Rattle.std.proofs.Common.{◌≡◌, ◌+◌, ℕ, List, length}
-use Rattle.std.specs.Io.KnownBytes.{Consumes}
+use Rattle.std.{proofs.Common.{◌≡◌, ◌+◌, ℕ, List, length}, specs.Io.KnownBytes.Consumes}
 use Rattle.key_port.specs.Answers.{rules}
-use Rattle.compute_command.specs.Arriving.{IsArriving}
-use Rattle.compute_command.specs.Asked.{AsksVotes}
-use Rattle.compute_command.specs.Checked.{TellsFirst}
+use Rattle.compute_command.specs.{Arriving.IsArriving, Asked.AsksVotes, Checked.TellsFirst}
 use Rattle.compute_command.proofs.from_source.read_votes.Given as goal
 
 abbrev pub invariant-pieces : goal.invariant-pieces

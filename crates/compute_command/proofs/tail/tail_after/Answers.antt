@@ -1,8 +1,5 @@
-use Rattle.std.proofs.Common.{◌∙◌, drop, ap, sym}
-use Rattle.std.specs.List.{fold}
-use Rattle.compute_command.specs.declared.tail.Tail.{Tail}
-use Rattle.compute_command.specs.Tails.{tail_with}
-use Rattle.compute_command.proofs.TailLines.{others}
+use Rattle.std.{proofs.Common.{◌∙◌, drop, ap, sym}, specs.List.fold}
+use Rattle.compute_command.{specs.{declared.tail.Tail.Tail, Tails.tail_with}, proofs.TailLines.others}
 use Rattle.compute_command.proofs.tail.tail_after.Goals as goal
 
 pub returns-in-Other : goal.returns-in-Other

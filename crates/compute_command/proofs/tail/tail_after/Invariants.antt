@@ -1,5 +1,4 @@
-use Rattle.std.proofs.Common.{◌≡◌, drop}
-use Rattle.std.specs.List.{fold}
+use Rattle.std.{proofs.Common.{◌≡◌, drop}, specs.List.fold}
 use Rattle.compute_command.specs.Tails.{tail_with}
 use Rattle.compute_command.proofs.tail.tail_after.Given as goal
 

@@ -1,8 +1,5 @@
-use Rattle.std.proofs.Common.{◌≡◌, drop}
-use Rattle.std.specs.Prelude.{is_some}
-use Rattle.std.specs.List.{list_any}
-use Rattle.vote_terms.specs.declared.entry.EntryFacts.{EntryFacts}
-use Rattle.vote_terms.specs.Entries.{measured_of}
+use Rattle.std.{proofs.Common.{◌≡◌, drop}, specs.{Prelude.is_some, List.list_any}}
+use Rattle.vote_terms.specs.{declared.entry.EntryFacts.EntryFacts, Entries.measured_of}
 use Rattle.compute_terms.specs.Bandwidths.{measures}
 use Rattle.consensus_calc.proofs.bandwidth.measures.Given as goal
 

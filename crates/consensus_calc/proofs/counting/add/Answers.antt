@@ -1,7 +1,5 @@
-use Rattle.std.proofs.Common.{◌≡◌, ◌+◌, ◌<◌, rules, ◌∙◌, ap, ℕ, length, get_or, false, arith}
-use Rattle.std.proofs.lemmas.List.{get_or_read}
-use Rattle.consensus_calc.specs.Counting.{one_if}
-use Rattle.consensus_calc.proofs.Counts.{add_step, behind_step, front_is}
+use Rattle.std.proofs.{Common.{◌≡◌, ◌+◌, ◌<◌, rules, ◌∙◌, ap, ℕ, length, get_or, false, arith}, lemmas.List.get_or_read}
+use Rattle.consensus_calc.{specs.Counting.one_if, proofs.Counts.{add_step, behind_step, front_is}}
 use Rattle.consensus_calc.proofs.counting.add.Goals as goal
 
 pub overflow_add-index_mut : goal.overflow_add-index_mut

@@ -1,10 +1,8 @@
 use Rattle.std.proofs.Common.{◌≡◌, List, [], ◌∷◌, ℕ, Bool, false, map, length, replicate, ap, sym, ◌∙◌}
-use Rattle.dir_values.specs.Arguments.{Argument}
-use Rattle.dir_values.specs.FlagSets.{has_flag}
-use Rattle.dir_values.proofs.ArgumentWords.{arguments_words}
+use Rattle.dir_values.{specs.{Arguments.Argument, FlagSets.has_flag}, proofs.ArgumentWords.arguments_words}
 use Rattle.item_terms.specs.Words.{words_of}
-use Rattle.consensus_calc.specs.Marks.{flag_marks}
-use Rattle.consensus_calc.proofs.Marking.{marked_more, marked_none, marked_start, length-marked, length_start, marks_of_set}
+use Rattle.consensus_calc.{specs.Marks.flag_marks, proofs.Marking.{marked_more, marked_none, marked_start}}
+use Rattle.consensus_calc.proofs.Marking.{length-marked, length_start, marks_of_set}
 use Rattle.consensus_calc.proofs.marks.mark.Goals as goal
 
 pub arguments-init : goal.arguments-init

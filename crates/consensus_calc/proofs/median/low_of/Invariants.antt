@@ -1,5 +1,4 @@
-use Rattle.std.proofs.Common.{◌≡◌, drop}
-use Rattle.std.specs.List.{find}
+use Rattle.std.{proofs.Common.{◌≡◌, drop}, specs.List.find}
 use Rattle.count_terms.specs.Counts.{middle, stands_at}
 use Rattle.consensus_calc.proofs.median.low_of.Given as goal
 

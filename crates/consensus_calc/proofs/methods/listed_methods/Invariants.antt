@@ -1,5 +1,4 @@
-use Rattle.std.proofs.Common.{◌≡◌, ℕ, take, map}
-use Rattle.std.specs.Global.{Vec}
+use Rattle.std.{proofs.Common.{◌≡◌, ℕ, take, map}, specs.Global.Vec}
 use Rattle.compute_terms.specs.Methods.{listed_methods}
 use Rattle.consensus_calc.proofs.methods.listed_methods.Given as goal
 

@@ -1,5 +1,4 @@
-use Rattle.std.proofs.Common.{◌≡◌, drop}
-use Rattle.std.specs.List.{find, filter_map}
+use Rattle.std.{proofs.Common.{◌≡◌, drop}, specs.List.{find, filter_map}}
 use Rattle.compute_terms.specs.Randoms.{agreed_random, is_agreed, random_of}
 use Rattle.consensus_calc.proofs.randoms.agreed_random.Given as goal
 

@@ -1,11 +1,8 @@
-use Rattle.std.proofs.Common.{◌≡◌, ◌∙◌, ap, Option}
-use Rattle.std.specs.Prelude.{option_map}
+use Rattle.std.{proofs.Common.{◌≡◌, ◌∙◌, ap, Option}, specs.Prelude.option_map}
 use Rattle.consensus_terms.specs.declared.router.Bandwidth.{Bandwidth}
-use Rattle.compute_terms.specs.Bandwidths.{relay_bandwidth}
-use Rattle.compute_terms.specs.Tuples.{chosen_tuple}
+use Rattle.compute_terms.specs.{Bandwidths.relay_bandwidth, Tuples.chosen_tuple}
 use Rattle.relay_select.specs.declared.choice.Choice.{Choice}
-use Rattle.consensus_calc.specs.Routerlines.{routerline_with}
-use Rattle.consensus_calc.proofs.Routerlines.{by_choice}
+use Rattle.consensus_calc.{specs.Routerlines.routerline_with, proofs.Routerlines.by_choice}
 use Rattle.consensus_calc.proofs.relay.routerline.Goals as goal
 
 pub returns-clause-value : goal.returns-clause-value

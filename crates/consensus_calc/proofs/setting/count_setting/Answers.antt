@@ -1,11 +1,11 @@
-use Rattle.std.proofs.Common.{◌≡◌, ◌<◌, ◌≤◌, ◌+◌, ◌∙◌, sym, ap, ℕ, List, Bool, length, map, take, replicate, get_or, arith}
-use Rattle.std.proofs.lemmas.List.{length-map}
+use Rattle.std.proofs.Common.{◌≡◌, ◌<◌, ◌≤◌, ◌+◌, ◌∙◌, sym, ap, ℕ, List, Bool, length, map, take, replicate, get_or}
+use Rattle.std.proofs.{Common.arith, lemmas.List.length-map}
 use Rattle.vote_terms.specs.declared.entry.EntryFacts.{EntryFacts}
 use Rattle.dir_values.specs.FlagSets.{has_flag}
-use Rattle.compute_terms.specs.declared.belong.Belong.{Belong}
-use Rattle.compute_terms.specs.Listings.{Listing, listings_at}
+use Rattle.compute_terms.specs.{declared.belong.Belong.Belong, Listings.{Listing, listings_at}}
 use Rattle.compute_terms.specs.RelayFlags.{setting_count}
-use Rattle.consensus_calc.proofs.Counts.{setting_more, none_set, zeros_few, added_few, member, vote_within, listings_more}
+use Rattle.consensus_calc.proofs.Counts.{setting_more, none_set, zeros_few, added_few, member, vote_within}
+use Rattle.consensus_calc.proofs.Counts.{listings_more}
 use Rattle.consensus_calc.proofs.setting.count_setting.Goals as goal
 
 pub members-init : goal.members-init

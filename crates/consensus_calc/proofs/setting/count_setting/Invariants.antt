@@ -1,6 +1,5 @@
 use Rattle.std.proofs.Common.{◌≡◌, ◌≤◌, ℕ, take, map, slice_index}
-use Rattle.compute_terms.specs.Listings.{listings_at}
-use Rattle.compute_terms.specs.RelayFlags.{setting_count}
+use Rattle.compute_terms.specs.{Listings.listings_at, RelayFlags.setting_count}
 use Rattle.consensus_calc.proofs.setting.count_setting.Given as goal
 
 abbrev pub invariant-members : goal.invariant-members

@@ -1,6 +1,4 @@
-use Rattle.std.proofs.Common.{◌≡◌, drop}
-use Rattle.std.specs.Prelude.{filter}
-use Rattle.std.specs.List.{fold}
+use Rattle.std.{proofs.Common.{◌≡◌, drop}, specs.{Prelude.filter, List.fold}}
 use Rattle.dir_values.specs.FlagSets.{with_flag, as_set}
 use Rattle.compute_terms.specs.RelayFlags.{suits_middle}
 use Rattle.consensus_calc.proofs.setting.in_middle.Given as goal

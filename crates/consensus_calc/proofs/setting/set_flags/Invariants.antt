@@ -1,5 +1,4 @@
-use Rattle.std.proofs.Common.{◌≡◌, drop}
-use Rattle.std.specs.List.{fold}
+use Rattle.std.{proofs.Common.{◌≡◌, drop}, specs.List.fold}
 use Rattle.dir_values.specs.FlagSets.{with_flag, as_set}
 use Rattle.consensus_calc.specs.Picking.{picked_flags}
 use Rattle.consensus_calc.proofs.setting.set_flags.Given as goal

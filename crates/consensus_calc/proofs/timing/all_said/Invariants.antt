@@ -1,5 +1,4 @@
-use Rattle.std.proofs.Common.{◌≡◌, ◌≤◌, take, map}
-use Rattle.std.specs.Prelude.{All}
+use Rattle.std.{proofs.Common.{◌≡◌, ◌≤◌, take, map}, specs.Prelude.All}
 use Rattle.consensus_calc.specs.Timings.{said_timing, most}
 use Rattle.consensus_calc.proofs.timing.all_said.Given as goal
 

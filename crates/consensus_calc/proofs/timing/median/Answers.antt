@@ -1,5 +1,4 @@
-use Rattle.consensus_calc.specs.Timings.{most}
-use Rattle.consensus_calc.proofs.Medians.{low_median-within}
+use Rattle.consensus_calc.{specs.Timings.most, proofs.Medians.low_median-within}
 use Rattle.consensus_calc.proofs.timing.median.Goals as goal
 
 pub returns-clause-within : goal.returns-clause-within

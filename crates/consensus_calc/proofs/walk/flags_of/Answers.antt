@@ -1,6 +1,5 @@
 use Rattle.std.proofs.Common.{◌≡◌, ◌∙◌, ap, ℕ, List}
-use Rattle.compute_terms.specs.Listings.{listings_at}
-use Rattle.compute_terms.specs.RelayFlags.{adjusted_flags}
+use Rattle.compute_terms.specs.{Listings.listings_at, RelayFlags.adjusted_flags}
 use Rattle.consensus_calc.proofs.Lines.{set_is}
 use Rattle.consensus_calc.proofs.walk.flags_of.Goals as goal
 

@@ -1,6 +1,5 @@
 use Rattle.std.proofs.Common.{◌≡◌, take}
-use Rattle.compute_terms.specs.Listings.{AreMembers, listings_at}
-use Rattle.compute_terms.specs.Routers.{belonging_listings}
+use Rattle.compute_terms.specs.{Listings.{AreMembers, listings_at}, Routers.belonging_listings}
 use Rattle.consensus_calc.proofs.walk.keep_belonging.Given as goal
 
 abbrev pub invariant-group : goal.invariant-group

@@ -1,7 +1,6 @@
 use Rattle.std.proofs.Common.{◌≡◌, ◌∙◌, ap, sym, List, Some, rules}
 use Rattle.relay_entries.specs.declared.said.EdOpinion.{EdOpinion}
-use Rattle.compute_terms.specs.declared.belong.Belong.{Belong}
-use Rattle.compute_terms.specs.Listings.{listings_at, entries_of}
+use Rattle.compute_terms.specs.{declared.belong.Belong.Belong, Listings.{listings_at, entries_of}}
 use Rattle.compute_terms.specs.Identities.{included_part, eds_of}
 use Rattle.consensus_calc.proofs.Lines.{IsFound, unlisted, listed}
 use Rattle.consensus_calc.proofs.walk.router.Goals as goal

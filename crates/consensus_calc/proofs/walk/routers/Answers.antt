@@ -1,13 +1,10 @@
 use Rattle.std.proofs.Common.{◌≡◌, ◌≤◌, ◌∙◌, ap, sym, subst, List, Option, ℕ, map, arith}
-use Rattle.std.specs.List.{filter_map}
-use Rattle.std.proofs.lemmas.List.Elements.{All-nil}
+use Rattle.std.{proofs.lemmas.List.Elements.All-nil, specs.List.filter_map}
 use Rattle.dir_bytes.specs.Causes.{last_moment}
 use Rattle.consensus_terms.specs.declared.router.Routerline.{Routerline}
-use Rattle.compute_terms.specs.Routers.{router_of, router_from}
-use Rattle.compute_terms.specs.Bandwidths.{cap_of}
-use Rattle.compute_terms.specs.Listings.{Listing, AreMembers, listings_at, identities_in}
-use Rattle.relay_select.specs.Walks.{Walk, Group, group_of, groups}
-use Rattle.relay_select.proofs.Steps.{step, gives_more, identities_back}
+use Rattle.compute_terms.specs.{Routers.{router_of, router_from}, Bandwidths.cap_of, Listings.{Listing, AreMembers}}
+use Rattle.compute_terms.specs.Listings.{listings_at, identities_in}
+use Rattle.relay_select.{specs.Walks.{Walk, Group, group_of, groups}, proofs.Steps.{step, gives_more, identities_back}}
 use Rattle.consensus_calc.proofs.Picks.{all_more}
 use Rattle.consensus_calc.proofs.walk.routers.Goals as goal
 

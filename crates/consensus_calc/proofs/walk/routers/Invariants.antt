@@ -1,6 +1,4 @@
-use Rattle.std.proofs.Common.{◌≡◌, ◌++◌, ◌≤◌, map, length, vec_capacity}
-use Rattle.std.specs.List.{filter_map}
-use Rattle.std.specs.Prelude.{All}
+use Rattle.std.{proofs.Common.{◌≡◌, ◌++◌, ◌≤◌, map, length, vec_capacity}, specs.{List.filter_map, Prelude.All}}
 use Rattle.dir_bytes.specs.Causes.{last_moment}
 use Rattle.consensus_terms.specs.declared.router.Routerline.{Routerline}
 use Rattle.compute_terms.specs.Routers.{router_of, routers}

@@ -1,7 +1,5 @@
 use Rattle.std.proofs.Common.{ap, refl, sym}
-use Rattle.consensus_doc.specs.Keeping.{Kept}
-use Rattle.consensus_doc.proofs.Drafting.{drafted}
-use Rattle.consensus_doc.proofs.Moments.{of_draft}
+use Rattle.consensus_doc.{specs.Keeping.Kept, proofs.{Drafting.drafted, Moments.of_draft}}
 use Rattle.consensus_doc.proofs.reading.draft_of.Goals as goal
 
 pub returns-clause-draft : goal.returns-clause-draft

@@ -1,9 +1,5 @@
-use Rattle.std.proofs.Common.{ap, sym, ◌∙◌}
-use Rattle.std.specs.List.{flat_map}
-use Rattle.std.proofs.lemmas.List.Folds.{flat_map-map}
-use Rattle.consensus_terms.specs.Flavours.{router_at}
-use Rattle.consensus_terms.specs.Routers.{listed_lines}
-use Rattle.consensus_terms.specs.Texts.{source_lines, body}
+use Rattle.std.{proofs.{Common.{ap, sym, ◌∙◌}, lemmas.List.Folds.flat_map-map}, specs.List.flat_map}
+use Rattle.consensus_terms.specs.{Flavours.router_at, Routers.listed_lines, Texts.{source_lines, body}}
 use Rattle.consensus_terms.specs.declared.router.Routerline.{Routerline}
 use Rattle.text_page.proofs.Pages.{also, same_text}
 use Rattle.consensus_text.proofs.body.put_body.Goals as goal

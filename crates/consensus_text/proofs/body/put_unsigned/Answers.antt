@@ -1,6 +1,5 @@
 use Rattle.std.proofs.Common.{ℕ, Option, ap}
-use Rattle.consensus_terms.specs.Flavours.{facts_at}
-use Rattle.consensus_terms.specs.Texts.{body, unsigned}
+use Rattle.consensus_terms.specs.{Flavours.facts_at, Texts.{body, unsigned}}
 use Rattle.text_page.proofs.Pages.{also, same_text}
 use Rattle.consensus_text.proofs.body.put_unsigned.Goals as goal
 

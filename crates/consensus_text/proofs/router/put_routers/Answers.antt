@@ -1,6 +1,4 @@
-use Rattle.consensus_terms.specs.Flavours.{router_at}
-use Rattle.consensus_terms.specs.Routers.{listed_lines}
-use Rattle.consensus_terms.specs.declared.router.Routerline.{Routerline}
+use Rattle.consensus_terms.specs.{Flavours.router_at, Routers.listed_lines, declared.router.Routerline.Routerline}
 use Rattle.text_page.proofs.Pages.{one_more_piece_put}
 use Rattle.consensus_text.proofs.router.put_routers.Goals as goal
 

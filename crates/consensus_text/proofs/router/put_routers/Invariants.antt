@@ -1,7 +1,5 @@
-use Rattle.std.proofs.Common.{◌≡◌, take}
-use Rattle.std.specs.List.{flat_map}
-use Rattle.consensus_terms.specs.Flavours.{router_at}
-use Rattle.consensus_terms.specs.Routers.{listed_lines}
+use Rattle.std.{proofs.Common.{◌≡◌, take}, specs.List.flat_map}
+use Rattle.consensus_terms.specs.{Flavours.router_at, Routers.listed_lines}
 use Rattle.text_page.specs.Pages.{with_text}
 use Rattle.consensus_text.proofs.router.put_routers.Given as goal
 

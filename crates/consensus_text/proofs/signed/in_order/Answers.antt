@@ -1,10 +1,6 @@
-use Rattle.std.proofs.Common.{rules, ◌≡◌, List, ap, ◌∙◌}
-use Rattle.std.specs.Ordering.{is_lt}
-use Rattle.std.proofs.lemmas.List.Sorted.{answers_always}
-use Rattle.consensus_terms.specs.declared.signature.SignatureLine.{SignatureLine}
-use Rattle.consensus_terms.specs.Signed.{in_order}
-use Rattle.consensus_text.specs.Private.{stands_before}
-use Rattle.consensus_text.proofs.Signatures.{identities_rank, sorted-in_order}
+use Rattle.std.{proofs.{Common.{rules, ◌≡◌, List, ap, ◌∙◌}, lemmas.List.Sorted.answers_always}, specs.Ordering.is_lt}
+use Rattle.consensus_terms.specs.{declared.signature.SignatureLine.SignatureLine, Signed.in_order}
+use Rattle.consensus_text.{specs.Private.stands_before, proofs.Signatures.{identities_rank, sorted-in_order}}
 use Rattle.consensus_text.proofs.signed.in_order.Goals as goal
 
 pub returns : goal.returns

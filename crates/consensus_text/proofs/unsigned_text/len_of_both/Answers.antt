@@ -1,6 +1,5 @@
 use Rattle.std.proofs.Common.{Option, Some, ap, ◌∙◌}
-use Rattle.text_page.specs.Pages.{Sheet, with_text, blank, count_of}
-use Rattle.text_page.proofs.Pages.{also, count_is_length}
+use Rattle.text_page.{specs.Pages.{Sheet, with_text, blank, count_of}, proofs.Pages.{also, count_is_length}}
 use Rattle.consensus_terms.specs.Texts as texts
 use Rattle.consensus_terms.specs.declared.flavour.Flavour.TheVariants.{Ns}
 use Rattle.consensus_text.proofs.unsigned_text.len_of_both.Goals as goal

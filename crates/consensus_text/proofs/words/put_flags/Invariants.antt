@@ -1,5 +1,4 @@
-use Rattle.std.proofs.Common.{◌≡◌, take}
-use Rattle.std.specs.List.{flat_map}
+use Rattle.std.{proofs.Common.{◌≡◌, take}, specs.List.flat_map}
 use Rattle.consensus_terms.specs.Lines.{behind_space}
 use Rattle.text_page.specs.Pages.{with_text}
 use Rattle.consensus_text.proofs.words.put_flags.Given as goal

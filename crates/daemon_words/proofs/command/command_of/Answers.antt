@@ -1,15 +1,9 @@
-use Rattle.std.proofs.Common.{Option, sym, ◌∙◌, subst}
-use Rattle.std.specs.Prelude.{IfSome}
-use Rattle.std.proofs.lemmas.Result.{IfOk-weaker}
-use Rattle.clap.specs.Words.{found_of, rows_of}
-use Rattle.clap.specs.declared.parser.matches.ArgMatches.{ArgMatches}
+use Rattle.std.{proofs.{Common.{Option, sym, ◌∙◌, subst}, lemmas.Result.IfOk-weaker}, specs.Prelude.IfSome}
+use Rattle.clap.specs.{Words.{found_of, rows_of}, declared.parser.matches.ArgMatches.ArgMatches}
 use Rattle.clap.specs.declared.parser.matches.ArgMatches.TheViews.{out-ArgMatches}
-use Rattle.daemon_words.specs.CommandLine.{faults, command_in}
-use Rattle.daemon_words.specs.Lending.{Matches}
-use Rattle.daemon_words.specs.Words.{KeepsBounds}
-use Rattle.daemon_words.specs.declared.command.Command.{Command}
-use Rattle.daemon_words.proofs.Bounds.{named_keeps}
-use Rattle.daemon_words.proofs.Named.{named_is, named_read, none_is, none_named, nothing_read}
+use Rattle.daemon_words.specs.{CommandLine.{faults, command_in}, Lending.Matches, Words.KeepsBounds}
+use Rattle.daemon_words.{specs.declared.command.Command.Command, proofs.{Bounds.named_keeps, Named.named_is}}
+use Rattle.daemon_words.proofs.Named.{named_read, none_is, none_named, nothing_read}
 use Rattle.daemon_words.proofs.command.command_of.Goals as goal
 
 pub returns-in_default-clause-command : goal.returns-in_default-clause-command

@@ -1,9 +1,7 @@
-use Rattle.std.proofs.Common.{◌≡◌, sym, ap, ◌∙◌}
-use Rattle.std.specs.Prelude.{map, string_bytes}
+use Rattle.std.{proofs.Common.{◌≡◌, sym, ap, ◌∙◌}, specs.Prelude.{map, string_bytes}}
 use Rattle.clap.specs.Words.{App, app_of, fault_of, is_simple, is_simple_and_free, subcommand_of}
-use Rattle.daemon_words.specs.CommandLine.{command_line, faults, command_in}
-use Rattle.daemon_words.proofs.Apps.{app_read, simple, simple_and_free}
-use Rattle.daemon_words.proofs.Named.{refused}
+use Rattle.daemon_words.{specs.CommandLine.{command_line, faults, command_in}, proofs.Apps.{app_read, simple}}
+use Rattle.daemon_words.proofs.{Apps.simple_and_free, Named.refused}
 use Rattle.daemon_words.proofs.command_line.matches_of.Goals as goal
 
 pub returns-in-Ok : goal.returns-in-Ok

@@ -1,7 +1,5 @@
 use Rattle.std.proofs.Common.{ap, ◌∙◌, ◌≡◌, true, refl}
-use Rattle.clap.specs.Simple.{app_of_fields}
-use Rattle.clap.specs.Words.{App}
-use Rattle.clap.specs.declared.builder.command.Command.TheViews.{out-Command}
+use Rattle.clap.specs.{Simple.app_of_fields, Words.App, declared.builder.command.Command.TheViews.out-Command}
 use Rattle.daemon_words.specs.Lending.{Reads}
 use Rattle.daemon_words.proofs.command_line.program.Goals as goal
 

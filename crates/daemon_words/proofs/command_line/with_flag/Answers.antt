@@ -1,9 +1,6 @@
 use Rattle.std.proofs.Common.{◌≡◌, ap, ◌∙◌, Some}
-use Rattle.clap.specs.Words.{Rule, rule_of}
-use Rattle.clap.specs.declared.builder.arg.Arg.{Arg}
-use Rattle.clap.specs.declared.builder.action.ArgAction.TheVariants.{SetTrue}
-use Rattle.daemon_words.specs.CommandLine.{flag}
-use Rattle.daemon_words.proofs.Apps.{adds_rule}
+use Rattle.clap.specs.{Words.{Rule, rule_of}, declared.builder.{arg.Arg.Arg, action.ArgAction.TheVariants.SetTrue}}
+use Rattle.daemon_words.{specs.CommandLine.flag, proofs.Apps.adds_rule}
 use Rattle.daemon_words.proofs.command_line.with_flag.Goals as goal
 
 pub returns : goal.returns

@@ -1,5 +1,4 @@
-use Rattle.daemon_words.specs.CommandLine.{needed_option}
-use Rattle.daemon_words.proofs.Apps.{adds_rule}
+use Rattle.daemon_words.{specs.CommandLine.needed_option, proofs.Apps.adds_rule}
 use Rattle.daemon_words.proofs.command_line.with_needed.Goals as goal
 
 pub returns : goal.returns

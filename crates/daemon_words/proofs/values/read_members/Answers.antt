@@ -1,9 +1,7 @@
 use Rattle.std.proofs.Common.{rules, ◌≡◌, List, [], ◌∷◌, ◌++◌, Option, Some, None, sym, ap, ◌∙◌}
 use Rattle.std.specs.Option.{option_map}
-use Rattle.dir_values.specs.declared.digest.Fingerprint.{Fingerprint}
-use Rattle.dir_values.specs.Digests.{fingerprint}
-use Rattle.daemon_words.specs.Values.{members}
-use Rattle.daemon_words.proofs.Lists.{none_named, last_named, one_named, not_read, was_read}
+use Rattle.dir_values.specs.{declared.digest.Fingerprint.Fingerprint, Digests.fingerprint}
+use Rattle.daemon_words.{specs.Values.members, proofs.Lists.{none_named, last_named, one_named, not_read, was_read}}
 use Rattle.daemon_words.proofs.values.read_members.Goals as goal
 
 pub returns-in_default : goal.returns-in_default

@@ -1,5 +1,4 @@
-use Rattle.std.proofs.Common.{◌≡◌, ◌++◌, length}
-use Rattle.std.specs.Option.{option_map}
+use Rattle.std.{proofs.Common.{◌≡◌, ◌++◌, length}, specs.Option.option_map}
 use Rattle.daemon_words.specs.Values.{members}
 use Rattle.daemon_words.proofs.values.read_members.Given as goal
 

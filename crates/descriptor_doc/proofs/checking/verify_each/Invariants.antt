@@ -1,5 +1,4 @@
-use Rattle.std.proofs.Common.{◌≡◌, take}
-use Rattle.std.specs.Prelude.{All}
+use Rattle.std.{proofs.Common.{◌≡◌, take}, specs.Prelude.All}
 use Rattle.key_port.specs.Answers.{rules}
 use Rattle.descriptor_doc.specs.Families.{AcceptsEach, IsOfFamily}
 use Rattle.descriptor_doc.proofs.checking.verify_each.Given as goal

@@ -1,8 +1,6 @@
-use Rattle.std.proofs.Common.{◌≡◌, ◌++◌, filter_map, length, take}
-use Rattle.std.specs.List.{list_any}
+use Rattle.std.{proofs.Common.{◌≡◌, ◌++◌, filter_map, length, take}, specs.List.list_any}
 use Rattle.item_terms.specs.Items.{items_of}
-use Rattle.descriptor_doc.specs.FamilyCerts.{cert_said, says_no_cert}
-use Rattle.descriptor_doc.specs.Reading.{max_descriptor}
+use Rattle.descriptor_doc.specs.{FamilyCerts.{cert_said, says_no_cert}, Reading.max_descriptor}
 use Rattle.descriptor_doc.proofs.families.family_certs_in.Given as goal
 
 -- the certificates so far, and those of the items that are left, are those of all; none so far lacks one

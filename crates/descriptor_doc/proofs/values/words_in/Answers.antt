@@ -1,6 +1,5 @@
 use Rattle.std.proofs.Common.{◌∙◌, ap, ◌++◌, List, ℕ}
-use Rattle.dir_values.specs.Arguments.{Argument, texts_of}
-use Rattle.dir_values.proofs.ArgumentWords.{arguments_words}
+use Rattle.dir_values.{specs.Arguments.{Argument, texts_of}, proofs.ArgumentWords.arguments_words}
 use Rattle.descriptor_doc.proofs.values.words_in.Goals as goal
 
 pub words-init : goal.words-init

@@ -1,5 +1,4 @@
-use Rattle.std.proofs.Common.{◌∙◌, ap, drop}
-use Rattle.std.proofs.lemmas.List.{take_rest}
+use Rattle.std.proofs.{Common.{◌∙◌, ap, drop}, lemmas.List.take_rest}
 use Rattle.descriptor_frame.proofs.certificate.extensions_of.Goals as goal
 
 pub returns : goal.returns

@@ -1,6 +1,5 @@
 use Rattle.std.proofs.Common.{rules, ◌∙◌, sym, ap, ◌+◌, ◌-◌, arith, true, false}
-use Rattle.descriptor_frame.specs.Certificates.{signer_in}
-use Rattle.descriptor_frame.proofs.Signers.{one_more_extension_passed, no_more, at_end}
+use Rattle.descriptor_frame.{specs.Certificates.signer_in, proofs.Signers.{one_more_extension_passed, no_more, at_end}}
 use Rattle.descriptor_frame.proofs.extensions.signer_in.Goals as goal
 
 pub returns-in-None : goal.returns-in-None

@@ -1,6 +1,6 @@
 use Rattle.std.proofs.Common.{rules, arith, ◌≡◌, ◌∙◌, ◌*◌, ◌+◌, ◌-◌, ℕ, List, ◌++◌, take, ap, sym, length}
-use Rattle.descriptor_frame.specs.Fields.{groups_of}
-use Rattle.descriptor_frame.proofs.Groups.{groups_behind_bytes, one_more_group_read, no_more, at_end, two_are_all, two_set, whole}
+use Rattle.descriptor_frame.{specs.Fields.groups_of, proofs.Groups.{groups_behind_bytes, one_more_group_read, no_more}}
+use Rattle.descriptor_frame.proofs.Groups.{at_end, two_are_all, two_set, whole}
 use Rattle.descriptor_frame.proofs.fields.groups_of.Goals as goal
 
 pub returns-in_err-group : goal.returns-in_err-group

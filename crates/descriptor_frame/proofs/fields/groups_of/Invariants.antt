@@ -1,6 +1,5 @@
 use Rattle.std.proofs.Common.{◌≡◌, ◌-◌, ◌*◌, length, take}
-use Rattle.descriptor_frame.specs.Fields.{groups_of}
-use Rattle.descriptor_frame.proofs.Groups.{groups_behind_bytes}
+use Rattle.descriptor_frame.{specs.Fields.groups_of, proofs.Groups.groups_behind_bytes}
 use Rattle.descriptor_frame.proofs.fields.groups_of.Given as goal
 
 abbrev pub invariant-groups : goal.invariant-groups

@@ -1,8 +1,6 @@
-use Rattle.std.proofs.Common.{◌∙◌}
-use Rattle.std.specs.Prelude.{filter_map}
+use Rattle.std.{proofs.Common.◌∙◌, specs.Prelude.filter_map}
 use Rattle.dir_values.proofs.Flags.{has_flag-as_set}
-use Rattle.descriptor_frame.specs.Families.{member_of}
-use Rattle.descriptor_frame.proofs.Forms.{forms_of_names}
+use Rattle.descriptor_frame.{specs.Families.member_of, proofs.Forms.forms_of_names}
 use Rattle.descriptor_frame.proofs.laws.families_have_their_names.Goals as goal
 
 pub returns : goal.returns

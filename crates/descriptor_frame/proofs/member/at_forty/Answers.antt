@@ -1,7 +1,5 @@
-use Rattle.std.proofs.Common.{◌≡◌, ℕ, ◌∙◌, sym, ap, List, length, take, drop, arith, ⊎_elim}
-use Rattle.std.specs.Prelude.{min}
-use Rattle.std.proofs.lemmas.Bool.{cases_lt}
-use Rattle.std.proofs.lemmas.List.{take_all, drop_all}
+use Rattle.std.proofs.{Common.{◌≡◌, ℕ, ◌∙◌, sym, ap, List, length, take, drop, arith, ⊎_elim}, lemmas.Bool.cases_lt}
+use Rattle.std.{proofs.lemmas.List.{take_all, drop_all}, specs.Prelude.min}
 use Rattle.descriptor_frame.proofs.member.at_forty.Goals as goal
 
 -- no more than all can be taken

@@ -1,7 +1,5 @@
-use Rattle.std.proofs.Common.{rules, ◌≡◌, ◌∙◌, ◌++◌, ℕ, List, ap, append_assoc, sym, arith}
-use Rattle.std.proofs.lemmas.Grind.{common_steps}
-use Rattle.dir_values.specs.Lending.{after_text}
-use Rattle.dir_values.proofs.SetTexts.{set_text-cons}
+use Rattle.std.proofs.{Common.{rules, ◌≡◌, ◌∙◌, ◌++◌, ℕ, List, ap, append_assoc, sym, arith}, lemmas.Grind.common_steps}
+use Rattle.dir_values.{specs.Lending.after_text, proofs.SetTexts.set_text-cons}
 use Rattle.descriptor_frame.specs.Families.{family_text}
 use Rattle.descriptor_frame.proofs.text.push_names.Goals as goal
 

@@ -1,5 +1,5 @@
-use Rattle.descriptor_laws.proofs.WrittenLines.{bandwidth_again, hibernating_again, identity_again, key_again, router_again}
-use Rattle.descriptor_laws.proofs.WrittenLines.{signature_again, uptime_again}
+use Rattle.descriptor_laws.proofs.WrittenLines.{bandwidth_again, hibernating_again, identity_again, key_again}
+use Rattle.descriptor_laws.proofs.WrittenLines.{router_again, signature_again, uptime_again}
 use Rattle.descriptor_laws.proofs.WrittenPolicies.{policy_again}
 use Rattle.descriptor_laws.proofs.laws.descriptor_lines_are_read_again.Goals as goal
 

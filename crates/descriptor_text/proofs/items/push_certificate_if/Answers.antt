@@ -1,10 +1,8 @@
-use Rattle.std.proofs.Common.{◌∙◌, ◌++◌, [], List, ℕ, ap, sym}
-use Rattle.std.specs.Prelude.{Option, codes, option_map}
+use Rattle.std.{proofs.Common.{◌∙◌, ◌++◌, [], List, ℕ, ap, sym}, specs.Prelude.{Option, codes, option_map}}
 use Rattle.dirdoc_grammar.specs.Writing.{item_text, items_text}
 use Rattle.descriptor_frame.specs.declared.certificate.EdCert.{EdCert}
 use Rattle.frame_terms.specs.declared.keyword.Keyword.TheVariants as the
-use Rattle.frame_values.specs.Items.{with_object}
-use Rattle.frame_values.proofs.ItemsTexts.{last}
+use Rattle.frame_values.{specs.Items.with_object, proofs.ItemsTexts.last}
 use Rattle.descriptor_text.specs.Texts.{certificate_bytes, object_if}
 use Rattle.descriptor_text.proofs.items.push_certificate_if.Goals as goal
 

@@ -1,6 +1,5 @@
 use Rattle.std.proofs.Common.{rules, ◌≡◌, ◌∙◌, ◌++◌, ◌∷◌, ◌*◌, ◌+◌, ℕ, List, ap, append_assoc, append-nil, arith, sym}
-use Rattle.std.proofs.lemmas.Grind.{common_steps}
-use Rattle.std.specs.Prelude.{slice_range}
+use Rattle.std.{proofs.lemmas.Grind.common_steps, specs.Prelude.slice_range}
 use Rattle.dir_bytes.specs.FieldTexts.{hex_text}
 use Rattle.descriptor_text.proofs.LeftOver.{first_group, groups_behind, no_more, one_more_group_behind}
 use Rattle.descriptor_text.proofs.lines.push_groups.Goals as goal

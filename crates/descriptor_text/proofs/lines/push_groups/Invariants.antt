@@ -1,6 +1,5 @@
 use Rattle.std.proofs.Common.{◌≡◌, ◌++◌, take, vec_len}
-use Rattle.descriptor_text.specs.Lines.{groups_text}
-use Rattle.descriptor_text.proofs.LeftOver.{groups_behind}
+use Rattle.descriptor_text.{specs.Lines.groups_text, proofs.LeftOver.groups_behind}
 use Rattle.descriptor_text.proofs.lines.push_groups.Given as goal
 
 abbrev pub invariant-groups : goal.invariant-groups

@@ -1,7 +1,5 @@
-use Rattle.std.proofs.Common.{rules, ◌≡◌, ◌++◌, ◌∷◌, [], append_assoc}
-use Rattle.std.proofs.lemmas.Result.{on_err_weaker}
-use Rattle.dir_bytes.proofs.Appending.{front_stays}
-use Rattle.dir_bytes.specs.FieldTexts.{address_text}
+use Rattle.std.proofs.{Common.{rules, ◌≡◌, ◌++◌, ◌∷◌, [], append_assoc}, lemmas.Result.on_err_weaker}
+use Rattle.dir_bytes.{proofs.Appending.front_stays, specs.FieldTexts.address_text}
 use Rattle.descriptor_text.proofs.lines.push_router.Goals as goal
 
 pub returns-clause-err : goal.returns-clause-err

@@ -1,11 +1,8 @@
-use Rattle.std.proofs.Common.{◌∙◌, ◌++◌, List, ℕ, ap, map, sym}
-use Rattle.std.specs.Prelude.{option_map}
-use Rattle.dir_values.specs.Ports.{summary_text}
-use Rattle.dir_values.specs.declared.policy.PolicyItem.{PolicyItem}
+use Rattle.std.{proofs.Common.{◌∙◌, ◌++◌, List, ℕ, ap, map, sym}, specs.Prelude.option_map}
+use Rattle.dir_values.specs.{Ports.summary_text, declared.policy.PolicyItem.PolicyItem}
 use Rattle.dirdoc_grammar.specs.Writing.{NewItem, items_text}
 use Rattle.frame_terms.specs.declared.keyword.Keyword.TheVariants as the
-use Rattle.frame_values.specs.Items.{item_if}
-use Rattle.frame_values.proofs.ItemsTexts.{link, sections}
+use Rattle.frame_values.{specs.Items.item_if, proofs.ItemsTexts.{link, sections}}
 use Rattle.descriptor_text.specs.Texts.{policy_item}
 use Rattle.descriptor_text.proofs.writing.push_exits.Goals as goal
 

@@ -1,7 +1,6 @@
 use Rattle.std.proofs.Common.{◌++◌, List}
 use Rattle.dirdoc_grammar.specs.Writing.{NewItem}
-use Rattle.descriptor_text.specs.Texts.{key_items, name_items, origin_items, state_items}
-use Rattle.descriptor_text.proofs.Appends.{group_and}
+use Rattle.descriptor_text.{specs.Texts.{key_items, name_items, origin_items, state_items}, proofs.Appends.group_and}
 use Rattle.descriptor_text.proofs.writing.push_front.Goals as goal
 
 pub returns-clause-ok : goal.returns-clause-ok

@@ -1,10 +1,8 @@
-use Rattle.std.proofs.Common.{◌∙◌, ◌++◌, ◌∷◌, [], List, ℕ, ap, sym}
-use Rattle.std.specs.Prelude.{option_map}
+use Rattle.std.{proofs.Common.{◌∙◌, ◌++◌, ◌∷◌, [], List, ℕ, ap, sym}, specs.Prelude.option_map}
 use Rattle.dir_bytes.specs.FieldTexts.{base64_text}
 use Rattle.dirdoc_grammar.specs.Writing.{NewItem, item_text, items_text}
 use Rattle.frame_terms.specs.declared.keyword.Keyword.TheVariants as the
-use Rattle.frame_values.specs.Items.{item_if, with_object}
-use Rattle.frame_values.proofs.ItemsTexts.{link, sections}
+use Rattle.frame_values.{specs.Items.{item_if, with_object}, proofs.ItemsTexts.{link, sections}}
 use Rattle.descriptor_text.specs.Texts.{object_if, rsa_words}
 use Rattle.descriptor_text.proofs.writing.push_keys.Goals as goal
 

@@ -1,9 +1,7 @@
-use Rattle.std.proofs.Common.{◌∙◌, ◌++◌, ◌∷◌, [], List, ℕ, ap, sym}
-use Rattle.std.specs.Prelude.{codes, option_map}
+use Rattle.std.{proofs.Common.{◌∙◌, ◌++◌, ◌∷◌, [], List, ℕ, ap, sym}, specs.Prelude.{codes, option_map}}
 use Rattle.dirdoc_grammar.specs.Writing.{NewItem, item_text, items_text}
 use Rattle.frame_terms.specs.declared.keyword.Keyword.TheVariants as the
-use Rattle.frame_values.specs.Items.{item_if, with_object}
-use Rattle.frame_values.proofs.ItemsTexts.{last, link, sections}
+use Rattle.frame_values.{specs.Items.{item_if, with_object}, proofs.ItemsTexts.{last, link, sections}}
 use Rattle.descriptor_text.specs.Lines.{ed_signature_text}
 use Rattle.descriptor_text.proofs.writing.push_signatures.Goals as goal
 

@@ -1,7 +1,6 @@
 use Rattle.std.proofs.Common.{◌≡◌, ◌∙◌, ◌++◌, [], List, ℕ, ap}
 use Rattle.dirdoc_grammar.specs.Writing.{items_text}
-use Rattle.descriptor_text.specs.Texts.{back_items, front_items}
-use Rattle.descriptor_text.proofs.Appends.{group_and}
+use Rattle.descriptor_text.{specs.Texts.{back_items, front_items}, proofs.Appends.group_and}
 use Rattle.descriptor_text.proofs.writing.write.Goals as goal
 
 pub returns : goal.returns

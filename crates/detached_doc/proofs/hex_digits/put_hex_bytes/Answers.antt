@@ -1,9 +1,7 @@
 use Rattle.std.proofs.Common.{◌/◌, ◌%◌, ◌∷◌, [], List, ℕ, Option, take, get_or, ap, sym, ◌∙◌}
 use Rattle.hex.specs.Hex.{upper_digits}
-use Rattle.dir_bytes.specs.FieldTexts.{hex_text}
-use Rattle.dir_bytes.proofs.Spelling.{hex_text-nil, hex_text_more}
-use Rattle.text_page.specs.Pages.{Sheet, with_text}
-use Rattle.text_page.proofs.Pages.{with_text-joined, with_text-nothing}
+use Rattle.dir_bytes.{specs.FieldTexts.hex_text, proofs.Spelling.{hex_text-nil, hex_text_more}}
+use Rattle.text_page.{specs.Pages.{Sheet, with_text}, proofs.Pages.{with_text-joined, with_text-nothing}}
 use Rattle.detached_doc.proofs.hex_digits.put_hex_bytes.Goals as goal
 
 pub digits-init : goal.digits-init

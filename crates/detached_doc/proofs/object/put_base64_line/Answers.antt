@@ -1,7 +1,6 @@
 use Rattle.std.proofs.Common.{List, ℕ, [], ◌∷◌, ap, ◌∙◌}
 use Rattle.dirdoc_grammar.specs.Bodies.{base64_of}
-use Rattle.text_page.specs.Pages.{with_text}
-use Rattle.text_page.proofs.Pages.{also}
+use Rattle.text_page.{specs.Pages.with_text, proofs.Pages.also}
 use Rattle.detached_doc.proofs.object.put_base64_line.Goals as goal
 
 pub returns : goal.returns

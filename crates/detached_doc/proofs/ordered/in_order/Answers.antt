@@ -1,8 +1,5 @@
-use Rattle.std.proofs.Common.{rules, ◌≡◌, List, ap, ◌∙◌}
-use Rattle.std.specs.Ordering.{is_lt}
-use Rattle.std.proofs.lemmas.List.Sorted.{answers_always}
-use Rattle.detached_doc.specs.declared.detached.DetachedLine.{DetachedLine}
-use Rattle.detached_doc.specs.Order.{in_order, stands_before}
+use Rattle.std.{proofs.{Common.{rules, ◌≡◌, List, ap, ◌∙◌}, lemmas.List.Sorted.answers_always}, specs.Ordering.is_lt}
+use Rattle.detached_doc.specs.{declared.detached.DetachedLine.DetachedLine, Order.{in_order, stands_before}}
 use Rattle.detached_doc.proofs.Order.{identities_rank, sorted-in_order}
 use Rattle.detached_doc.proofs.ordered.in_order.Goals as goal
 

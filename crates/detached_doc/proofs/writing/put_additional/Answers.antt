@@ -1,5 +1,4 @@
-use Rattle.std.proofs.Common.{ℕ, List, ◌++◌, ◌∷◌, ap}
-use Rattle.std.specs.Prelude.{codes}
+use Rattle.std.{proofs.Common.{ℕ, List, ◌++◌, ◌∷◌, ap}, specs.Prelude.codes}
 use Rattle.dir_bytes.specs.FieldTexts.{hex_text}
 use Rattle.dirdoc_grammar.specs.Bodies.{object_text}
 use Rattle.frame_terms.specs.Keywords.{text_of}

@@ -1,5 +1,4 @@
-use Rattle.std.proofs.Common.{ap}
-use Rattle.std.specs.List.{flat_map}
+use Rattle.std.{proofs.Common.ap, specs.List.flat_map}
 use Rattle.text_page.proofs.Pages.{also, same_text}
 use Rattle.detached_doc.specs.Private.{digest_text}
 use Rattle.detached_doc.proofs.writing.put_detached.Goals as goal

@@ -3,8 +3,7 @@ use Rattle.dir_bytes.specs.FieldTexts.{hex_text}
 use Rattle.frame_terms.specs.Keywords.{text_of}
 use Rattle.frame_terms.specs.declared.keyword.Keyword.TheVariants as the
 use Rattle.text_page.proofs.Pages.{same_text}
-use Rattle.detached_doc.specs.Private.{digest_text}
-use Rattle.detached_doc.proofs.Rests.{digest_put}
+use Rattle.detached_doc.{specs.Private.digest_text, proofs.Rests.digest_put}
 use Rattle.detached_doc.proofs.writing.put_digest.Goals as goal
 
 pub returns : goal.returns

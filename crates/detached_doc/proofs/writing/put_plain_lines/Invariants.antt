@@ -1,5 +1,4 @@
-use Rattle.std.proofs.Common.{◌≡◌, take}
-use Rattle.std.specs.List.{flat_map}
+use Rattle.std.{proofs.Common.{◌≡◌, take}, specs.List.flat_map}
 use Rattle.detached_doc.specs.Private.{plain_line_text}
 use Rattle.text_page.specs.Pages.{with_text}
 use Rattle.detached_doc.proofs.writing.put_plain_lines.Given as goal

@@ -1,8 +1,5 @@
-use Rattle.std.proofs.Common.{◌≡◌, List, ℕ, ap, sym, subst, ◌∙◌}
-use Rattle.std.specs.Prelude.{IfOk}
-use Rattle.detached_doc.specs.declared.detached.DetachedLine.{DetachedLine}
-use Rattle.detached_doc.specs.Order.{in_order}
-use Rattle.detached_doc.specs.Private.{parts}
+use Rattle.std.{proofs.Common.{◌≡◌, List, ℕ, ap, sym, subst, ◌∙◌}, specs.Prelude.IfOk}
+use Rattle.detached_doc.specs.{declared.detached.DetachedLine.DetachedLine, Order.in_order, Private.parts}
 use Rattle.detached_doc.proofs.WholeTexts.{whole_text}
 use Rattle.detached_doc.proofs.writing.write.Goals as goal
 

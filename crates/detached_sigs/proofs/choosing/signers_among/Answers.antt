@@ -1,7 +1,6 @@
 use Rattle.std.proofs.Common.{◌≡◌, ◌<◌, ◌∙◌, length, get_or, true, subst, arith, rules}
 use Rattle.key_port.specs.Answers.{rules as verifier_rules}
-use Rattle.detached_sigs.specs.declared.key.SignerKey.{SignerKey}
-use Rattle.detached_sigs.specs.Signers.{has_good_line, has_bad_lines}
+use Rattle.detached_sigs.specs.{declared.key.SignerKey.SignerKey, Signers.{has_good_line, has_bad_lines}}
 use Rattle.detached_sigs.proofs.LeftOut.{one_signs, one_signs_not}
 use Rattle.detached_sigs.proofs.choosing.signers_among.Goals as goal
 

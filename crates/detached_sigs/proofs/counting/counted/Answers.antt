@@ -1,10 +1,8 @@
 use Rattle.std.proofs.Common.{◌+◌, ◌≤◌, ◌∙◌, take, subst, sym, inl, inr, arith}
 use Rattle.key_port.specs.Answers.{rules}
-use Rattle.detached_sigs.specs.Signers.{CountsSigners}
+use Rattle.detached_sigs.{specs.Signers.CountsSigners, proofs.counting.counted.Goals.{in-Yes, in-No}}
+use Rattle.detached_sigs.proofs.{Signing.{counts_signer, counts_other}, Asking.{asked_next, fails_at}}
 use Rattle.detached_sigs.proofs.counting.counted.Goals as goal
-use Rattle.detached_sigs.proofs.counting.counted.Goals.{in-Yes, in-No}
-use Rattle.detached_sigs.proofs.Signing.{counts_signer, counts_other}
-use Rattle.detached_sigs.proofs.Asking.{asked_next, fails_at}
 
 pub returns-in-Fault-clause-failed : goal.returns-in-Fault-clause-failed
 returns-in-Fault-clause-failed g c =

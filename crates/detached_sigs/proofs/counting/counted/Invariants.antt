@@ -1,7 +1,6 @@
 use Rattle.std.proofs.Common.{◌≡◌, ◌≤◌, take}
 use Rattle.key_port.specs.Answers.{rules}
-use Rattle.detached_sigs.specs.Signers.{CountsSigners}
-use Rattle.detached_sigs.specs.Questions.{AsksOfKeys}
+use Rattle.detached_sigs.specs.{Signers.CountsSigners, Questions.AsksOfKeys}
 use Rattle.detached_sigs.proofs.counting.counted.Given as goal
 
 -- the signers among the keys so far are counted, and the verifier did not fail

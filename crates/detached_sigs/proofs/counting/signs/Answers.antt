@@ -1,7 +1,6 @@
 use Rattle.std.proofs.Common.{◌≡◌, ◌∙◌, true}
 use Rattle.key_port.specs.Answers.{rules}
-use Rattle.detached_sigs.proofs.Asking.{answers_at, refused_next}
-use Rattle.detached_sigs.proofs.Signing.{bad_next}
+use Rattle.detached_sigs.proofs.{Asking.{answers_at, refused_next}, Signing.bad_next}
 use Rattle.detached_sigs.proofs.counting.signs.Goals as goal
 
 pub returns-in-Yes-clause-asked : goal.returns-in-Yes-clause-asked

@@ -1,7 +1,6 @@
 use Rattle.std.proofs.Common.{◌≡◌, true, take}
 use Rattle.key_port.specs.Answers.{rules}
-use Rattle.detached_sigs.specs.Signers.{has_bad_lines}
-use Rattle.detached_sigs.specs.Questions.{RefusesLines}
+use Rattle.detached_sigs.specs.{Signers.has_bad_lines, Questions.RefusesLines}
 use Rattle.detached_sigs.proofs.counting.signs.Given as goal
 
 -- each line so far is refused, and the verifier did not fail

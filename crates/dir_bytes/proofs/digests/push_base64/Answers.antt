@@ -1,6 +1,5 @@
 use Rattle.std.proofs.Common.{◌≡◌, ◌∙◌, ◌++◌, List, ℕ, ap, sym, length, arith, rules, append_assoc, length-append}
-use Rattle.dir_bytes.specs.FieldTexts.{base64_text}
-use Rattle.dir_bytes.proofs.Spelling.{base64_text-piece}
+use Rattle.dir_bytes.{specs.FieldTexts.base64_text, proofs.Spelling.base64_text-piece}
 use Rattle.dir_bytes.proofs.digests.push_base64.Goals as goal
 
 pub pieces-preserved : goal.pieces-preserved

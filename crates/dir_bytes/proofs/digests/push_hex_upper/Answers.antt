@@ -1,8 +1,7 @@
 use Rattle.std.proofs.Common.{◌/◌, ◌%◌, ◌++◌, ◌∷◌, [], List, ℕ, take, get_or, ap, sym, ◌∙◌, append_assoc, arith, rules}
 use Rattle.std.proofs.lemmas.List.{append-nil}
 use Rattle.hex.specs.Hex.{upper_digits}
-use Rattle.dir_bytes.specs.FieldTexts.{hex_text}
-use Rattle.dir_bytes.proofs.Spelling.{hex_text-nil, hex_text_more}
+use Rattle.dir_bytes.{specs.FieldTexts.hex_text, proofs.Spelling.{hex_text-nil, hex_text_more}}
 use Rattle.dir_bytes.proofs.digests.push_hex_upper.Goals as goal
 
 pub digits-init : goal.digits-init

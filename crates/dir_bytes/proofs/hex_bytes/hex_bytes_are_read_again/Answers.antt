@@ -1,7 +1,5 @@
 use Rattle.std.proofs.Common.{◌≡◌, ℕ, ◌/◌, length, ap, ◌∙◌, arith}
-use Rattle.dir_bytes.specs.Fields.{hex}
-use Rattle.dir_bytes.specs.FieldTexts.{hex_text}
-use Rattle.dir_bytes.proofs.ReadAgain.{hex-hex_text}
+use Rattle.dir_bytes.{specs.{Fields.hex, FieldTexts.hex_text}, proofs.ReadAgain.hex-hex_text}
 use Rattle.dir_bytes.proofs.Spelling.{length-hex_text}
 use Rattle.dir_bytes.proofs.hex_bytes.hex_bytes_are_read_again.Goals as goal
 

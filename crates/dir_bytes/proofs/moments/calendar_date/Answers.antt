@@ -1,5 +1,4 @@
-use Rattle.std.proofs.Common.{arith, w64, ◌∙◌}
-use Rattle.std.proofs.lemmas.Int.{to_z_pos}
+use Rattle.std.proofs.{Common.{arith, w64, ◌∙◌}, lemmas.Int.to_z_pos}
 use Rattle.dir_bytes.proofs.Days.{date_of_is, date_of_only}
 use Rattle.dir_bytes.proofs.moments.calendar_date.Goals as goal
 

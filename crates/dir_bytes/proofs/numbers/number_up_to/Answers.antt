@@ -1,5 +1,4 @@
-use Rattle.std.proofs.Common.{arith, sym, ◌∙◌, ℕ, ◌≡◌, true, get_or}
-use Rattle.std.specs.Char.{is_ascii_digit}
+use Rattle.std.{proofs.Common.{arith, sym, ◌∙◌, ℕ, ◌≡◌, true, get_or}, specs.Char.is_ascii_digit}
 use Rattle.dir_bytes.proofs.Numerals.{none_if_too_much, digit_parts}
 use Rattle.dir_bytes.proofs.numbers.number_up_to.Goals as goal
 

@@ -1,6 +1,4 @@
-use Rattle.std.proofs.Common.{◌≡◌, ◌≤◌, take, true}
-use Rattle.std.specs.Str.{all_ascii_digits}
-use Rattle.std.specs.Str.Parse.{digits_value}
+use Rattle.std.{proofs.Common.{◌≡◌, ◌≤◌, take, true}, specs.Str.{all_ascii_digits, Parse.digits_value}}
 use Rattle.dir_bytes.proofs.numbers.number_up_to.Given as goal
 
 abbrev pub invariant-digits : goal.invariant-digits

@@ -1,6 +1,5 @@
 use Rattle.std.proofs.Common.{◌++◌, ◌+◌, take, arith, length-take, length-append, IfErr, Result, Ok, Err}
-use Rattle.dir_bytes.specs.Streams.{TakesAtMost}
-use Rattle.dir_bytes.proofs.Appending.{consumes_more}
+use Rattle.dir_bytes.{specs.Streams.TakesAtMost, proofs.Appending.consumes_more}
 use Rattle.dir_bytes.proofs.reading.read_all.Goals as goal
 
 pub returns-then-count-room-clause-refused : goal.returns-then-count-room-clause-refused

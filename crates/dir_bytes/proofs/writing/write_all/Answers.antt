@@ -1,6 +1,5 @@
 use Rattle.std.proofs.Common.{◌-◌, List, ℕ, take, drop, length, subst, arith, length-take, length-drop, ◌∙◌}
-use Rattle.std.specs.Io.KnownBytes.{Appends}
-use Rattle.std.proofs.lemmas.List.{take_rest}
+use Rattle.std.{proofs.lemmas.List.take_rest, specs.Io.KnownBytes.Appends}
 use Rattle.dir_bytes.proofs.Appending.{appends_more}
 use Rattle.dir_bytes.proofs.writing.write_all.Goals as goal
 

@@ -1,5 +1,4 @@
-use Rattle.std.proofs.Common.{◌∙◌, Err, ap, arith}
-use Rattle.std.proofs.lemmas.Result.{err_from_is_err_and}
+use Rattle.std.proofs.{Common.{◌∙◌, Err, ap, arith}, lemmas.Result.err_from_is_err_and}
 use Rattle.dir_http.proofs.Reading.{too_long, handed_on}
 use Rattle.dir_http.proofs.head.head_of.Goals as goal
 

@@ -1,8 +1,7 @@
 use Rattle.std.proofs.Common.{◌++◌, ◌∙◌, take, sym, subst, arith, length-append, length-take}
 use Rattle.std.specs.Io.KnownBytes.{Consumes}
 use Rattle.dir_bytes.proofs.Appending.{consumes_more}
-use Rattle.dir_http.specs.Requests.{Whatever}
-use Rattle.dir_http.proofs.Reading.{reads_head}
+use Rattle.dir_http.{specs.Requests.Whatever, proofs.Reading.reads_head}
 use Rattle.dir_http.proofs.head.read_head.Goals as goal
 
 pub returns-in_err-extend_from_slice-in-Got-clause-taken :

@@ -1,11 +1,9 @@
-use Rattle.std.proofs.Common.{All, Option, length, refl, sym, subst, arith}
-use Rattle.std.specs.Option.{option_to_list}
-use Rattle.httparse.specs.declared.spans.Span.{Span}
-use Rattle.httparse.specs.Spans.{IsWithin}
-use Rattle.dir_http.specs.Heads.{length_values}
+use Rattle.std.{proofs.Common.{All, Option, length, refl, sym, subst, arith}, specs.Option.option_to_list}
+use Rattle.httparse.specs.{declared.spans.Span.Span, Spans.IsWithin}
+use Rattle.dir_http.{specs.Heads.length_values, proofs.length.announcement_of.Goals.then-is_length_name+else-is_some}
+use Rattle.dir_http.proofs.{length.announcement_of.Goals.else-is_length_name, Lengths.second_is_unclear}
+use Rattle.dir_http.proofs.Lengths.{first_is_kept, other_adds_none, all_of_one}
 use Rattle.dir_http.proofs.length.announcement_of.Goals as goal
-use Rattle.dir_http.proofs.length.announcement_of.Goals.{then-is_length_name+else-is_some, else-is_length_name}
-use Rattle.dir_http.proofs.Lengths.{second_is_unclear, first_is_kept, other_adds_none, all_of_one}
 
 pub fields-init : goal.fields-init
 unfolding length_values

@@ -1,5 +1,4 @@
-use Rattle.std.proofs.Common.{◌≡◌, All, length, map, take}
-use Rattle.std.specs.Option.{option_to_list}
+use Rattle.std.{proofs.Common.{◌≡◌, All, length, map, take}, specs.Option.option_to_list}
 use Rattle.dir_http.specs.Heads as heads
 use Rattle.httparse.specs.Spans.{IsWithin, span_bytes, header_bytes}
 use Rattle.dir_http.proofs.length.announcement_of.Given as goal

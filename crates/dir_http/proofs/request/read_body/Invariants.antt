@@ -1,5 +1,4 @@
-use Rattle.std.proofs.Common.{◌≡◌, ◌≤◌, ◌-◌, vec_len}
-use Rattle.std.specs.Io.KnownBytes.{Consumes}
+use Rattle.std.{proofs.Common.{◌≡◌, ◌≤◌, ◌-◌, vec_len}, specs.Io.KnownBytes.Consumes}
 use Rattle.dir_http.specs.Requests.{body_ahead}
 use Rattle.dir_http.proofs.request.read_body.Given as goal
 

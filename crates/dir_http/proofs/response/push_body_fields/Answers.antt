@@ -1,6 +1,5 @@
 use Rattle.std.proofs.Common.{codes, decimal}
-use Rattle.dir_http.specs.Responses.{body_fields, line_end}
-use Rattle.dir_http.proofs.Writing.{added_five}
+use Rattle.dir_http.{specs.Responses.{body_fields, line_end}, proofs.Writing.added_five}
 use Rattle.dir_http.proofs.response.push_body_fields.Goals as goal
 
 pub returns : goal.returns

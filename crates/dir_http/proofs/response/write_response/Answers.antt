@@ -1,8 +1,7 @@
 use Rattle.std.proofs.Common.{◌≡◌, ◌∙◌, ◌++◌, ◌+◌, ◌≤◌, ℕ, List, length, take, ap, sym, subst, arith, length-append}
 use Rattle.std.specs.Io.KnownBytes.{Appends}
 use Rattle.dir_bytes.specs.Causes.{Rose}
-use Rattle.dir_http.specs.Responses.{head_text, response_text}
-use Rattle.dir_http.proofs.Writing.{appends_front}
+use Rattle.dir_http.{specs.Responses.{head_text, response_text}, proofs.Writing.appends_front}
 use Rattle.dir_http.proofs.response.write_response.Goals as goal
 
 pub returns-in-Failed-write_all : goal.returns-in-Failed-write_all

@@ -1,7 +1,5 @@
 use Rattle.std.proofs.Common.{rules, ◌≡◌, ℕ, true, false, List, sym, subst}
-use Rattle.dir_values.specs.Arguments.{Argument, arguments_at}
-use Rattle.dir_values.specs.FlagSets.{is_name, has_flag}
-use Rattle.dir_values.specs.Taking.{argument_of}
+use Rattle.dir_values.specs.{Arguments.{Argument, arguments_at}, FlagSets.{is_name, has_flag}, Taking.argument_of}
 use Rattle.dir_values.proofs.ListedFlags.{Listed, Walks, listed_first, listed_next, wrong_name, wrong_twice, none_wrong}
 use Rattle.dir_values.proofs.flag_list.wrong_in_any_order.Goals as goal
 

@@ -1,6 +1,5 @@
 use Rattle.std.proofs.Common.{length}
-use Rattle.dir_values.specs.Arguments.{arguments_at}
-use Rattle.dir_values.proofs.ListedFlags.{Listed}
+use Rattle.dir_values.{specs.Arguments.arguments_at, proofs.ListedFlags.Listed}
 use Rattle.dir_values.proofs.flag_list.wrong_in_any_order.Given as goal
 
 abbrev pub invariant-arguments : goal.invariant-arguments

@@ -1,7 +1,5 @@
-use Rattle.std.proofs.Common.{rules, ℕ, List, sym, arith}
-use Rattle.std.proofs.lemmas.List.Sorted.{IsPartitionPoint-from_clause}
-use Rattle.dir_values.specs.Digests.{bytes_below}
-use Rattle.dir_values.proofs.FlagPlaces.{parted, prefix_is}
+use Rattle.std.proofs.{Common.{rules, ℕ, List, sym, arith}, lemmas.List.Sorted.IsPartitionPoint-from_clause}
+use Rattle.dir_values.{specs.Digests.bytes_below, proofs.FlagPlaces.{parted, prefix_is}}
 use Rattle.dir_values.proofs.flag_set.place_of.Goals as goal
 
 pub returns-clause-count : goal.returns-clause-count

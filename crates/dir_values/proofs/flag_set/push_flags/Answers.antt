@@ -1,8 +1,7 @@
 use Rattle.std.proofs.Common.{rules, ◌≡◌, ◌++◌, ℕ, List, length, sym, ap, ◌∙◌, arith, append_assoc, length-append}
 use Rattle.std.proofs.lemmas.Grind.{common_steps}
-use Rattle.dir_values.specs.FlagSets.{set_text}
-use Rattle.dir_values.specs.Lending.{after_text}
-use Rattle.dir_values.proofs.SetTexts.{set_text-cons, length-after_text}
+use Rattle.dir_values.{specs.{FlagSets.set_text, Lending.after_text}, proofs.SetTexts.set_text-cons}
+use Rattle.dir_values.proofs.SetTexts.{length-after_text}
 use Rattle.dir_values.proofs.flag_set.push_flags.Goals as goal
 
 pub loop-flag-init : goal.loop-flag-init

@@ -1,6 +1,5 @@
 use Rattle.std.proofs.Common.{◌≡◌, ◌≤◌, ◌+◌, ◌++◌, take, drop, length, vec_len, vec_capacity}
-use Rattle.dir_values.specs.FlagSets.{set_text}
-use Rattle.dir_values.specs.Lending.{after_text}
+use Rattle.dir_values.specs.{FlagSets.set_text, Lending.after_text}
 use Rattle.dir_values.proofs.flag_set.push_flags.Given as goal
 
 abbrev pub invariant-loop-flag : goal.invariant-loop-flag

@@ -1,12 +1,7 @@
 use Rattle.std.proofs.Common.{rules, ◌≡◌, ℕ, true, List, [], ◌∷◌, ◌++◌, sym, ap, ◌∙◌, subst, arith}
-use Rattle.std.proofs.lemmas.Grind.{common_steps}
-use Rattle.std.specs.List.{fold}
-use Rattle.dir_values.specs.Arguments.{Argument, texts_of}
-use Rattle.dir_values.specs.FlagSets.{Ascend, with_flag}
-use Rattle.dir_values.specs.Lending.{comes_last}
-use Rattle.dir_values.proofs.ArgumentWords.{arguments_words}
-use Rattle.dir_values.proofs.Flags.{Ascend-with_flag}
-use Rattle.dir_values.proofs.SetsAlone.{with_behind}
+use Rattle.std.{proofs.lemmas.Grind.common_steps, specs.List.fold}
+use Rattle.dir_values.specs.{Arguments.{Argument, texts_of}, FlagSets.{Ascend, with_flag}, Lending.comes_last}
+use Rattle.dir_values.proofs.{ArgumentWords.arguments_words, Flags.Ascend-with_flag, SetsAlone.with_behind}
 use Rattle.dir_values.proofs.flag_set.put_words.Goals as goal
 
 pub arguments-init : goal.arguments-init

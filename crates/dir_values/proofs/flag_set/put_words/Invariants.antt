@@ -1,8 +1,6 @@
-use Rattle.std.proofs.Common.{◌≡◌, take, length, vec_len}
-use Rattle.std.specs.List.{fold}
+use Rattle.std.{proofs.Common.{◌≡◌, take, length, vec_len}, specs.List.fold}
 use Rattle.item_terms.specs.Words.{words_of}
-use Rattle.dir_values.specs.Arguments.{texts_of}
-use Rattle.dir_values.specs.FlagSets.{Ascend, with_flag}
+use Rattle.dir_values.specs.{Arguments.texts_of, FlagSets.{Ascend, with_flag}}
 use Rattle.dir_values.proofs.flag_set.put_words.Given as goal
 
 abbrev pub invariant-arguments : goal.invariant-arguments

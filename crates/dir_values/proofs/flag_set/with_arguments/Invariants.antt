@@ -1,7 +1,5 @@
-use Rattle.std.proofs.Common.{◌≡◌, length}
-use Rattle.std.specs.List.{fold}
-use Rattle.dir_values.specs.Arguments.{texts_of}
-use Rattle.dir_values.specs.FlagSets.{with_flag}
+use Rattle.std.{proofs.Common.{◌≡◌, length}, specs.List.fold}
+use Rattle.dir_values.specs.{Arguments.texts_of, FlagSets.with_flag}
 use Rattle.dir_values.proofs.flag_set.with_arguments.Given as goal
 
 abbrev pub invariant-arguments : goal.invariant-arguments

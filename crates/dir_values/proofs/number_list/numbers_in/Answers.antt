@@ -1,7 +1,5 @@
 use Rattle.std.proofs.Common.{◌≡◌, ap, ◌∙◌, ◌++◌, [], List, ℕ, map, rules}
-use Rattle.dir_values.specs.Arguments.{Argument, texts_of}
-use Rattle.dir_values.specs.Numbers.{number_in}
-use Rattle.dir_values.proofs.ArgumentWords.{arguments_words}
+use Rattle.dir_values.{specs.{Arguments.{Argument, texts_of}, Numbers.number_in}, proofs.ArgumentWords.arguments_words}
 use Rattle.dir_values.proofs.number_list.numbers_in.Goals as goal
 
 pub arguments-init : goal.arguments-init

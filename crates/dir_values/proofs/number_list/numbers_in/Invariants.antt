@@ -1,6 +1,5 @@
 use Rattle.std.proofs.Common.{◌≡◌, ◌++◌, length, map}
-use Rattle.dir_values.specs.Arguments.{texts_of}
-use Rattle.dir_values.specs.Numbers.{number_in, numbers_in}
+use Rattle.dir_values.specs.{Arguments.texts_of, Numbers.{number_in, numbers_in}}
 use Rattle.dir_values.proofs.number_list.numbers_in.Given as goal
 
 abbrev pub invariant-arguments : goal.invariant-arguments

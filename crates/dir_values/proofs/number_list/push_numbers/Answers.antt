@@ -1,9 +1,6 @@
-use Rattle.std.proofs.Common.{◌≡◌, ◌∙◌, ◌++◌, List, ℕ, ap, sym, append_assoc, arith}
-use Rattle.std.proofs.lemmas.Grind.{common_steps}
+use Rattle.std.proofs.{Common.{◌≡◌, ◌∙◌, ◌++◌, List, ℕ, ap, sym, append_assoc, arith}, lemmas.Grind.common_steps}
 use Rattle.std.specs.Prelude.{decimal}
-use Rattle.dir_values.specs.Lending.{after_numbers}
-use Rattle.dir_values.specs.Numbers.{numbers_text}
-use Rattle.dir_values.proofs.NumberTexts.{numbers_text-cons}
+use Rattle.dir_values.{specs.{Lending.after_numbers, Numbers.numbers_text}, proofs.NumberTexts.numbers_text-cons}
 use Rattle.dir_values.proofs.number_list.push_numbers.Goals as goal
 
 pub numbers-init : goal.numbers-init

@@ -1,6 +1,5 @@
 use Rattle.std.proofs.Common.{◌≡◌, ◌++◌, drop, take, vec_len}
-use Rattle.dir_values.specs.Lending.{after_numbers}
-use Rattle.dir_values.specs.Numbers.{numbers_text}
+use Rattle.dir_values.specs.{Lending.after_numbers, Numbers.numbers_text}
 use Rattle.dir_values.proofs.number_list.push_numbers.Given as goal
 
 abbrev pub invariant-numbers : goal.invariant-numbers

@@ -1,9 +1,7 @@
-use Rattle.std.proofs.Common.{rules, ◌≡◌, ℕ, ◌+◌, ◌++◌, ◌∷◌, [], List, Some, sym, ap, ◌∙◌}
-use Rattle.std.specs.List.{slice_split}
-use Rattle.dir_values.specs.declared.port_range.PortRange.{PortRange}
-use Rattle.dir_values.specs.Ports.{is_comma}
-use Rattle.dir_values.proofs.PortParts.{ranges_after, one_more_range_spelled, last_one, no_more}
-use Rattle.dir_values.proofs.PortTexts.{list_after, spelled_apart}
+use Rattle.std.{proofs.Common.{rules, ◌≡◌, ℕ, ◌+◌, ◌++◌, ◌∷◌, [], List, Some, sym, ap, ◌∙◌}, specs.List.slice_split}
+use Rattle.dir_values.{specs.{declared.port_range.PortRange.PortRange, Ports.is_comma}, proofs.PortParts.ranges_after}
+use Rattle.dir_values.proofs.{PortParts.{one_more_range_spelled, last_one, no_more}, PortTexts.list_after}
+use Rattle.dir_values.proofs.PortTexts.{spelled_apart}
 use Rattle.dir_values.proofs.port_list.range_list.Goals as goal
 
 pub parts-init : goal.parts-init

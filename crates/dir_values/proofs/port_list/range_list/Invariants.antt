@@ -1,7 +1,5 @@
-use Rattle.std.proofs.Common.{◌≡◌, length}
-use Rattle.std.specs.List.{slice_split}
-use Rattle.dir_values.specs.Ports.{range_list, is_comma}
-use Rattle.dir_values.proofs.PortParts.{ranges_after}
+use Rattle.std.{proofs.Common.{◌≡◌, length}, specs.List.slice_split}
+use Rattle.dir_values.{specs.Ports.{range_list, is_comma}, proofs.PortParts.ranges_after}
 use Rattle.dir_values.proofs.port_list.range_list.Given as goal
 
 abbrev pub invariant-parts : goal.invariant-parts

@@ -1,6 +1,6 @@
 use Rattle.std.proofs.Common.{◌∙◌, ap, ℕ, List}
-use Rattle.dir_values.specs.Numbers.{number_of}
-use Rattle.dir_values.specs.Versions.{full_stop, front_of, behind, patch_in, version_with, version_by}
+use Rattle.dir_values.specs.{Numbers.number_of, Versions.{full_stop, front_of, behind, patch_in, version_with}}
+use Rattle.dir_values.specs.Versions.{version_by}
 use Rattle.dir_values.proofs.tor_version.version_of.Goals as goal
 
 pub returns : goal.returns

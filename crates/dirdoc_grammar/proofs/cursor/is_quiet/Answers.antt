@@ -1,10 +1,7 @@
-use Rattle.std.proofs.Common.{◌≤◌, ◌-◌, ap, sym, length, ◌∙◌, arith}
-use Rattle.std.specs.Prelude.{min}
-use Rattle.std.proofs.lemmas.Bool.{leb-true}
+use Rattle.std.{proofs.{Common.{◌≤◌, ◌-◌, ap, sym, length, ◌∙◌, arith}, lemmas.Bool.leb-true}, specs.Prelude.min}
 use Rattle.item_terms.specs.Words.{begins_dash}
 use Rattle.dirdoc_grammar.specs.declared.front.Phase.TheVariants.{Between, Keyword, Object}
-use Rattle.dirdoc_grammar.proofs.FirstLine.{whole_rest}
-use Rattle.dirdoc_grammar.proofs.Quiet.{quiet_or, no_nl_on, rest_whole, all_no_nl}
+use Rattle.dirdoc_grammar.proofs.{FirstLine.whole_rest, Quiet.{quiet_or, no_nl_on, rest_whole, all_no_nl}}
 use Rattle.dirdoc_grammar.proofs.cursor.is_quiet.Goals as goal
 
 pub returns-in-Between-clause-quiet : goal.returns-in-Between-clause-quiet

@@ -1,7 +1,6 @@
 use Rattle.std.proofs.Common.{◌≡◌, sym, false, ◌∙◌, arith}
 use Rattle.item_terms.specs.Words.{begins_dash}
-use Rattle.dirdoc_grammar.proofs.Cursors.{line_on}
-use Rattle.dirdoc_grammar.proofs.FirstLine.{ends_inside}
+use Rattle.dirdoc_grammar.proofs.{Cursors.line_on, FirstLine.ends_inside}
 use Rattle.dirdoc_grammar.proofs.cursor.past_lines.Goals as goal
 
 pub lines-preserved : goal.lines-preserved

@@ -1,7 +1,5 @@
 use Rattle.std.proofs.Common.{inl, inr, arith, subst, Ok, Option}
-use Rattle.dirdoc_grammar.specs.declared.item.Item.{Item}
-use Rattle.dirdoc_grammar.specs.Reading.{Reads}
-use Rattle.dirdoc_grammar.proofs.NextItems.{stops_between, found_open}
+use Rattle.dirdoc_grammar.{specs.{declared.item.Item.Item, Reading.Reads}, proofs.NextItems.{stops_between, found_open}}
 use Rattle.dirdoc_grammar.proofs.front.next_item.Goals as goal
 
 pub returns-in-Open-clause-found : goal.returns-in-Open-clause-found

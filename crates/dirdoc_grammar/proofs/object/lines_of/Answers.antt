@@ -1,8 +1,7 @@
-use Rattle.std.proofs.Common.{◌≡◌, refl, sym, inl, ◌∙◌, arith}
+use Rattle.std.proofs.Common.{◌≡◌, refl, sym, inl, ◌∙◌, arith, false}
 use Rattle.item_terms.specs.Words.{begins_dash}
-use Rattle.std.proofs.Common.{false}
-use Rattle.dirdoc_grammar.specs.Seen.{seen_item}
-use Rattle.dirdoc_grammar.proofs.ObjectSteps.{one_turn, stops_inside, line_stops, ends_object, breaks_object}
+use Rattle.dirdoc_grammar.{specs.Seen.seen_item, proofs.ObjectSteps.{one_turn, stops_inside, line_stops, ends_object}}
+use Rattle.dirdoc_grammar.proofs.ObjectSteps.{breaks_object}
 use Rattle.dirdoc_grammar.proofs.object.lines_of.Goals as goal
 
 pub returns-in-Err-clause-object : goal.returns-in-Err-clause-object

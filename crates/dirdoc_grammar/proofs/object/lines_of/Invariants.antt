@@ -1,6 +1,5 @@
 use Rattle.std.proofs.Common.{◌-◌, length}
-use Rattle.dirdoc_grammar.specs.Seen.{seen_item}
-use Rattle.dirdoc_grammar.proofs.ObjectSteps.{LinesTo}
+use Rattle.dirdoc_grammar.{specs.Seen.seen_item, proofs.ObjectSteps.LinesTo}
 use Rattle.dirdoc_grammar.proofs.object.lines_of.Given as goal
 
 abbrev pub invariant-lines : goal.invariant-lines

@@ -1,8 +1,6 @@
 use Rattle.std.proofs.Common.{◌≡◌, ◌<◌, sym, refl, ap, false, drop, length, ◌∙◌, arith}
 use Rattle.item_terms.specs.Words.{begins_dash}
-use Rattle.dirdoc_grammar.specs.Seen.{seen_item}
-use Rattle.dirdoc_grammar.proofs.FirstLine.{whole_rest}
-use Rattle.dirdoc_grammar.proofs.LineSteps.{no_object}
+use Rattle.dirdoc_grammar.{specs.Seen.seen_item, proofs.{FirstLine.whole_rest, LineSteps.no_object}}
 use Rattle.dirdoc_grammar.proofs.ObjectSteps.{object_found, begin_found, item_waits}
 use Rattle.dirdoc_grammar.proofs.object.with_object.Goals as goal
 

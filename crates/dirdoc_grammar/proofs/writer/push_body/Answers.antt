@@ -1,5 +1,4 @@
-use Rattle.std.proofs.Common.{sym, ◌∙◌, arith}
-use Rattle.std.proofs.lemmas.Grind.{common_steps}
+use Rattle.std.proofs.{Common.{sym, ◌∙◌, arith}, lemmas.Grind.common_steps}
 use Rattle.dirdoc_grammar.proofs.BodyLines.{after_lines, one_turn}
 use Rattle.dirdoc_grammar.proofs.writer.push_body.Goals as goal
 

@@ -1,6 +1,5 @@
 use Rattle.std.proofs.Common.{◌∙◌, ap, List, ℕ, ◌++◌, ◌∷◌, []}
-use Rattle.dirdoc_grammar.specs.Bodies.{begin_line, body_text, end_line}
-use Rattle.dirdoc_grammar.proofs.BodyLines.{parts_joined}
+use Rattle.dirdoc_grammar.{specs.Bodies.{begin_line, body_text, end_line}, proofs.BodyLines.parts_joined}
 use Rattle.dirdoc_grammar.proofs.writer.push_object.Goals as goal
 
 pub returns-clause-ok : goal.returns-clause-ok

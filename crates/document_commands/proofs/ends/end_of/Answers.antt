@@ -1,8 +1,7 @@
 use Rattle.std.proofs.Common.{◌≡◌, ℕ, ◌-◌, List, length, take, drop, refl, ap, subst, sym, ◌∙◌, arith}
 use Rattle.std.proofs.lemmas.List.{length-drop}
 use Rattle.dirdoc_grammar.proofs.FirstLine.{whole_rest}
-use Rattle.frame_terms.specs.declared.fault.ReadRefusal.{ReadRefusal}
-use Rattle.frame_terms.specs.Refusals.{Fails}
+use Rattle.frame_terms.specs.{declared.fault.ReadRefusal.ReadRefusal, Refusals.Fails}
 use Rattle.document_commands.proofs.MadeOf.{ends_behind, fails_behind, fits_behind}
 use Rattle.document_commands.proofs.ends.end_of.Goals as goal
 

@@ -1,6 +1,4 @@
-use Rattle.std.proofs.Common.{◌≡◌, length}
-use Rattle.std.specs.List.{fold}
-use Rattle.std.specs.Prelude.{Some}
+use Rattle.std.{proofs.Common.{◌≡◌, length}, specs.{List.fold, Prelude.Some}}
 use Rattle.item_terms.specs.Items.{items_of}
 use Rattle.micro_desc.specs.Reading.{max_micro}
 use Rattle.document_commands.specs.NextMicro.{after_last}

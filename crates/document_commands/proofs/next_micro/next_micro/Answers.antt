@@ -1,7 +1,5 @@
-use Rattle.std.proofs.Common.{ℕ, Option, sym, ap, ◌∙◌, arith}
-use Rattle.std.specs.Prelude.{option_and_then}
-use Rattle.blank_lines.specs.Blanks.{after_blanks}
-use Rattle.blank_lines.proofs.LinesBehind.{no_line}
+use Rattle.std.{proofs.Common.{ℕ, Option, sym, ap, ◌∙◌, arith}, specs.Prelude.option_and_then}
+use Rattle.blank_lines.{specs.Blanks.after_blanks, proofs.LinesBehind.no_line}
 use Rattle.document_commands.specs.NextMicro.{if_onion_key}
 use Rattle.document_commands.proofs.next_micro.next_micro.Goals as goal
 

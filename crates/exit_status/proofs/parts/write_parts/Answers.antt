@@ -1,8 +1,5 @@
-use Rattle.std.proofs.Common.{List, ℕ, arith, sym, subst, take_all}
-use Rattle.std.specs.List.{flat_map}
-use Rattle.std.specs.Io.KnownBytes.{Appends}
-use Rattle.exit_status.specs.Reports.{Reports}
-use Rattle.exit_status.proofs.Fronts.{whole, front, split_at}
+use Rattle.std.{proofs.Common.{List, ℕ, arith, sym, subst, take_all}, specs.{List.flat_map, Io.KnownBytes.Appends}}
+use Rattle.exit_status.{specs.Reports.Reports, proofs.Fronts.{whole, front, split_at}}
 use Rattle.exit_status.proofs.parts.write_parts.Goals as goal
 
 pub returns-in-Failed : goal.returns-in-Failed

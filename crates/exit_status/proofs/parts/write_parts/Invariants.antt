@@ -1,6 +1,4 @@
-use Rattle.std.proofs.Common.{◌≤◌, take}
-use Rattle.std.specs.List.{flat_map}
-use Rattle.std.specs.Io.KnownBytes.{Appends}
+use Rattle.std.{proofs.Common.{◌≤◌, take}, specs.{List.flat_map, Io.KnownBytes.Appends}}
 use Rattle.exit_status.proofs.parts.write_parts.Given as goal
 
 abbrev pub invariant-loop-part : goal.invariant-loop-part

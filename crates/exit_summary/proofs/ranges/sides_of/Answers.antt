@@ -1,11 +1,10 @@
 use Rattle.std.proofs.Common.{rules, ◌≡◌, ℕ, ◌≤◌, ◌-◌, ◌∙◌, sym, ap, Bool, true, false, List, reverse, arith}
 use Rattle.std.specs.Prelude.{not}
 use Rattle.dir_values.specs.declared.port_range.PortRange.{PortRange}
-use Rattle.exit_summary.specs.Policies.{accepts_port}
-use Rattle.exit_summary.specs.PortRanges.{ranges_down, with_ports}
+use Rattle.exit_summary.specs.{Policies.accepts_port, PortRanges.{ranges_down, with_ports}}
 use Rattle.exit_summary.proofs.Stretches.{pass_step, fail_step, whole}
-use Rattle.exit_summary.proofs.ranges.sides_of.Goals as goal
 use Rattle.exit_summary.proofs.ranges.sides_of.Goals.{then-stretch+in_ok-add_ports, else-stretch+in_ok-add_ports-2}
+use Rattle.exit_summary.proofs.ranges.sides_of.Goals as goal
 
 pub stretches-preserved : goal.stretches-preserved
 stretches-preserved c =

@@ -1,7 +1,6 @@
 use Rattle.std.proofs.Common.{◌≡◌, not, reverse}
-use Rattle.exit_summary.specs.Policies.{accepts_port}
-use Rattle.exit_summary.specs.PortRanges.{ranges_down}
-use Rattle.exit_summary.specs.Summaries.{accepted_ranges, rejected_ranges}
+use Rattle.exit_summary.specs.{Policies.accepts_port, PortRanges.ranges_down, Summaries.accepted_ranges}
+use Rattle.exit_summary.specs.Summaries.{rejected_ranges}
 use Rattle.exit_summary.proofs.ranges.sides_of.Given as goal
 
 abbrev pub invariant-stretches : goal.invariant-stretches

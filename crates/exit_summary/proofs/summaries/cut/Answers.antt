@@ -1,8 +1,6 @@
 use Rattle.std.proofs.Common.{rules, ◌≡◌, sym, subst, true, List}
-use Rattle.dir_values.specs.declared.port_range.PortRange.{PortRange}
-use Rattle.dir_values.specs.Ports.{are_ranges}
-use Rattle.exit_summary.specs.Summaries.{most_behind_word, ranges_fitting}
-use Rattle.exit_summary.proofs.Fitting.{fitting_ranges}
+use Rattle.dir_values.specs.{declared.port_range.PortRange.PortRange, Ports.are_ranges}
+use Rattle.exit_summary.{specs.Summaries.{most_behind_word, ranges_fitting}, proofs.Fitting.fitting_ranges}
 use Rattle.exit_summary.proofs.summaries.cut.Goals as goal
 
 pub new-requires : goal.new-requires

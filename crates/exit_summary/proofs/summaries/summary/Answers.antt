@@ -1,11 +1,8 @@
 use Rattle.std.proofs.Common.{rules, ◌≡◌, ℕ, Bool, ◌≤◌, ◌∙◌, sym, ap₂, subst, length, arith}
-use Rattle.std.specs.Prelude.{not, IfOk}
-use Rattle.std.proofs.lemmas.Bool.Decides.{nat_tests}
+use Rattle.std.{proofs.lemmas.Bool.Decides.nat_tests, specs.Prelude.{not, IfOk}}
 use Rattle.dir_values.specs.Ports.{Ports}
-use Rattle.exit_summary.specs.Policies.{accepts_port}
-use Rattle.exit_summary.specs.Summaries.{of_ranges, shorter, summary_of}
-use Rattle.exit_summary.proofs.RangeLaws.{are_ranges_of}
-use Rattle.exit_summary.proofs.SummaryLaws.{both_sides}
+use Rattle.exit_summary.specs.{Policies.accepts_port, Summaries.{of_ranges, shorter, summary_of}}
+use Rattle.exit_summary.proofs.{RangeLaws.are_ranges_of, SummaryLaws.both_sides}
 use Rattle.exit_summary.proofs.summaries.summary.Goals as goal
 
 pub new-requires : goal.new-requires

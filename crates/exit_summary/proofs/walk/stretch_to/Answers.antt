@@ -1,7 +1,6 @@
-use Rattle.std.proofs.Common.{rules, ℕ, ◌+◌, ◌∙◌, ap, drop, arith}
-use Rattle.std.specs.Prelude.{filter}
-use Rattle.exit_summary.specs.Policies.{covers}
-use Rattle.exit_summary.proofs.Walks.{Covers, accepted_from, decides, adds, too_many, walked, count_is}
+use Rattle.std.{proofs.Common.{rules, ℕ, ◌+◌, ◌∙◌, ap, drop, arith}, specs.Prelude.filter}
+use Rattle.exit_summary.{specs.Policies.covers, proofs.Walks.{Covers, accepted_from, decides, adds, too_many, walked}}
+use Rattle.exit_summary.proofs.Walks.{count_is}
 use Rattle.exit_summary.proofs.walk.stretch_to.Goals as goal
 
 pub returns-then-is_every-clause-same : goal.returns-then-is_every-clause-same

@@ -1,6 +1,5 @@
 use Rattle.std.proofs.Common.{◌≡◌, ℕ, ◌≤◌}
-use Rattle.exit_summary.specs.Policies.{accepts_port, most_rejected}
-use Rattle.exit_summary.proofs.Walks.{accepted_from}
+use Rattle.exit_summary.{specs.Policies.{accepts_port, most_rejected}, proofs.Walks.accepted_from}
 use Rattle.exit_summary.proofs.walk.stretch_to.Given as goal
 
 abbrev pub invariant-loop-i : goal.invariant-loop-i

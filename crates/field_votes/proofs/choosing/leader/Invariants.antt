@@ -1,5 +1,5 @@
-use Rattle.std.proofs.Common.{◌≡◌, ◌<◌, take, length}
-use Rattle.std.specs.Prelude.{IfSome, IsTrue, ◌↔◌, is_none, option_and_then, slice_get}
+use Rattle.std.{proofs.Common.{◌≡◌, ◌<◌, take, length}, specs.Prelude.{IfSome, IsTrue, ◌↔◌, is_none, option_and_then}}
+use Rattle.std.specs.Prelude.{slice_get}
 use Rattle.field_votes.specs.Leading as leading
 use Rattle.field_votes.proofs.choosing.leader.Given as goal
 

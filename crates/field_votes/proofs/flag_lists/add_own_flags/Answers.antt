@@ -1,6 +1,5 @@
 use Rattle.std.proofs.Common.{List, ℕ, ap, ◌∙◌}
-use Rattle.field_votes.specs.Private.{with_own}
-use Rattle.field_votes.proofs.OwnFlags.{with_own-as_set}
+use Rattle.field_votes.{specs.Private.with_own, proofs.OwnFlags.with_own-as_set}
 use Rattle.field_votes.proofs.flag_lists.add_own_flags.Goals as goal
 
 pub returns-clause-ok : goal.returns-clause-ok

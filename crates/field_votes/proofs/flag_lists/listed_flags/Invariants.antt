@@ -1,5 +1,4 @@
-use Rattle.std.proofs.Common.{◌≡◌, drop}
-use Rattle.std.specs.List.{fold}
+use Rattle.std.{proofs.Common.{◌≡◌, drop}, specs.List.fold}
 use Rattle.dir_values.specs.FlagSets.{with_flag, as_set}
 use Rattle.field_votes.specs.Flags.{listed_flags}
 use Rattle.field_votes.proofs.flag_lists.listed_flags.Given as goal

@@ -1,5 +1,4 @@
-use Rattle.field_votes.specs.Flags.{is_majority_flag}
-use Rattle.field_votes.proofs.KeptFlags.{kept_step}
+use Rattle.field_votes.{specs.Flags.is_majority_flag, proofs.KeptFlags.kept_step}
 use Rattle.field_votes.proofs.majorities.flags_of_most.Goals as goal
 
 pub flags-preserved : goal.flags-preserved

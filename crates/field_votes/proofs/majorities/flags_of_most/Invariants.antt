@@ -1,6 +1,4 @@
-use Rattle.std.proofs.Common.{◌≡◌, drop}
-use Rattle.std.specs.Prelude.{filter}
-use Rattle.std.specs.List.{fold}
+use Rattle.std.{proofs.Common.{◌≡◌, drop}, specs.{Prelude.filter, List.fold}}
 use Rattle.dir_values.specs.FlagSets.{with_flag, as_set}
 use Rattle.field_votes.specs.Flags.{is_majority_flag}
 use Rattle.field_votes.proofs.majorities.flags_of_most.Given as goal

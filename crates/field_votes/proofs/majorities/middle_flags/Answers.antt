@@ -1,5 +1,4 @@
-use Rattle.field_votes.specs.Flags.{suits_middle}
-use Rattle.field_votes.proofs.KeptFlags.{kept_step}
+use Rattle.field_votes.{specs.Flags.suits_middle, proofs.KeptFlags.kept_step}
 use Rattle.field_votes.proofs.majorities.middle_flags.Goals as goal
 
 pub flags-preserved : goal.flags-preserved

@@ -1,7 +1,5 @@
-use Rattle.std.proofs.Common.{rules, pos, length, get_or, ◌<◌, sym, ◌∙◌, arith, w32, SFits}
-use Rattle.std.proofs.lemmas.Int.{to_z-of_z}
-use Rattle.count_terms.specs.Counts.{middle}
-use Rattle.count_terms.proofs.Numbers.{int_median_there}
+use Rattle.std.proofs.{Common.{rules, pos, length, get_or, ◌<◌, sym, ◌∙◌, arith, w32, SFits}, lemmas.Int.to_z-of_z}
+use Rattle.count_terms.{specs.Counts.middle, proofs.Numbers.int_median_there}
 use Rattle.field_votes.proofs.medians.low_median_i32.Goals as goal
 
 pub returns : goal.returns

@@ -1,6 +1,5 @@
 use Rattle.std.proofs.Common.{length, ◌<◌, sym, arith}
-use Rattle.count_terms.specs.Counts.{middle}
-use Rattle.count_terms.proofs.Numbers.{low_median_there}
+use Rattle.count_terms.{specs.Counts.middle, proofs.Numbers.low_median_there}
 use Rattle.field_votes.proofs.medians.low_median_u64.Goals as goal
 
 pub returns : goal.returns

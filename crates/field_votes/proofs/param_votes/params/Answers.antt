@@ -1,10 +1,8 @@
-use Rattle.std.proofs.Common.{◌≡◌, ℕ, List, sym, ◌∙◌, subst}
-use Rattle.std.specs.List.{flat_map}
+use Rattle.std.{proofs.Common.{◌≡◌, ℕ, List, sym, ◌∙◌, subst}, specs.List.flat_map}
 use Rattle.dir_values.specs.FlagSets as flag_sets
 use Rattle.dir_values.proofs.Flags.{Ascend-as_set}
 use Rattle.list_values.specs.Maps.{Ascend, names_of}
-use Rattle.field_votes.specs.Lists.{all_names, median_param, is_listed_param}
-use Rattle.field_votes.proofs.NamedLists.{ascend_among}
+use Rattle.field_votes.{specs.Lists.{all_names, median_param, is_listed_param}, proofs.NamedLists.ascend_among}
 use Rattle.field_votes.proofs.param_votes.params.Goals as goal
 
 pub new-requires : goal.new-requires

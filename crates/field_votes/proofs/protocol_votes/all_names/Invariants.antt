@@ -1,5 +1,4 @@
-use Rattle.std.proofs.Common.{◌≡◌, drop}
-use Rattle.std.specs.List.{fold, flat_map}
+use Rattle.std.{proofs.Common.{◌≡◌, drop}, specs.List.{fold, flat_map}}
 use Rattle.dir_values.specs.FlagSets.{with_flag}
 use Rattle.list_values.specs.Maps.{names_of}
 use Rattle.field_votes.specs.Lists.{all_names}

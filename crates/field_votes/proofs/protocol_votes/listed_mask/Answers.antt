@@ -1,10 +1,8 @@
 use Rattle.std.proofs.Common.{rules, ◌≡◌, ℕ, suc, ◌+◌, ◌*◌, ◌%◌, ◌^◌, Bool, true, false, sym, ap, ◌∙◌, arith}
 use Rattle.std.specs.Prelude.{bit_or, if◌then◌else◌}
-use Rattle.field_votes.specs.Lists.{is_listed_number}
-use Rattle.field_votes.specs.Private.{mask_below}
-use Rattle.field_votes.proofs.ListedMasks.{start, step}
-use Rattle.field_votes.proofs.protocol_votes.listed_mask.Goals as goal
+use Rattle.field_votes.{specs.{Lists.is_listed_number, Private.mask_below}, proofs.ListedMasks.{start, step}}
 use Rattle.field_votes.proofs.protocol_votes.listed_mask.Goals.{then-is_listed_number, else-is_listed_number}
+use Rattle.field_votes.proofs.protocol_votes.listed_mask.Goals as goal
 
 pub numbers-init : goal.numbers-init
 numbers-init c = record {

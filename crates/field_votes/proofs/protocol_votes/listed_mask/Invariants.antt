@@ -1,6 +1,5 @@
 use Rattle.std.proofs.Common.{◌≡◌, ◌-◌, ◌≤◌}
-use Rattle.field_votes.specs.Lists.{is_listed_number}
-use Rattle.field_votes.specs.Private.{mask_below}
+use Rattle.field_votes.specs.{Lists.is_listed_number, Private.mask_below}
 use Rattle.field_votes.proofs.protocol_votes.listed_mask.Given as goal
 
 abbrev pub invariant-numbers : goal.invariant-numbers

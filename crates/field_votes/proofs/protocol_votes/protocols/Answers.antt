@@ -1,14 +1,10 @@
-use Rattle.std.proofs.Common.{◌≡◌, ℕ, List, sym, ap, ◌∙◌, subst}
-use Rattle.std.specs.Prelude.{not, ◌==◌, map, filter}
+use Rattle.std.{proofs.Common.{◌≡◌, ℕ, List, sym, ap, ◌∙◌, subst}, specs.Prelude.{not, ◌==◌, map, filter}}
 use Rattle.std.specs.List.{flat_map}
 use Rattle.dir_values.specs.FlagSets as flag_sets
 use Rattle.dir_values.proofs.Flags.{Ascend-as_set}
-use Rattle.list_values.specs.Maps.{Ascend, named_value, names_of}
-use Rattle.list_values.specs.Masks.{all_listed}
-use Rattle.field_votes.specs.Lists.{all_names, listed_numbers, is_listed_protocol}
-use Rattle.field_votes.specs.Private.{listed_mask}
-use Rattle.field_votes.proofs.ListedMasks.{listed_among}
-use Rattle.field_votes.proofs.NamedLists.{ascend_among}
+use Rattle.list_values.specs.{Maps.{Ascend, named_value, names_of}, Masks.all_listed}
+use Rattle.field_votes.specs.{Lists.{all_names, listed_numbers, is_listed_protocol}, Private.listed_mask}
+use Rattle.field_votes.proofs.{ListedMasks.listed_among, NamedLists.ascend_among}
 use Rattle.field_votes.proofs.protocol_votes.protocols.Goals as goal
 
 pub new-requires : goal.new-requires

@@ -1,5 +1,4 @@
-use Rattle.std.proofs.Common.{◌≡◌, drop, List, ℕ}
-use Rattle.std.specs.List.{fold, flat_map}
+use Rattle.std.{proofs.Common.{◌≡◌, drop, List, ℕ}, specs.List.{fold, flat_map}}
 use Rattle.field_votes.specs.Versions.{all_versions, lists_there, with_version}
 use Rattle.field_votes.proofs.version_votes.all_versions.Given as goal
 

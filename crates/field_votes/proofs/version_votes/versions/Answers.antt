@@ -1,5 +1,4 @@
-use Rattle.std.proofs.Common.{List, ℕ, ap₂, ◌∙◌}
-use Rattle.std.specs.Prelude.{filter}
+use Rattle.std.{proofs.Common.{List, ℕ, ap₂, ◌∙◌}, specs.Prelude.filter}
 use Rattle.field_votes.specs.Versions.{all_versions, is_listed_by_most, lists_there}
 use Rattle.field_votes.proofs.VersionSets.{filter-in_order}
 use Rattle.field_votes.proofs.version_votes.versions.Goals as goal

@@ -1,7 +1,5 @@
-use Rattle.std.proofs.Common.{rules}
-use Rattle.std.proofs.lemmas.List.Sorted.{IsPartitionPoint-from_clause}
-use Rattle.flag_rules.specs.Private.{is_before}
-use Rattle.flag_rules.proofs.Ahead.{parted, two_ahead, few_ahead}
+use Rattle.std.proofs.{Common.rules, lemmas.List.Sorted.IsPartitionPoint-from_clause}
+use Rattle.flag_rules.{specs.Private.is_before, proofs.Ahead.{parted, two_ahead, few_ahead}}
 use Rattle.flag_rules.proofs.addresses.is_one_too_many.Goals as goal
 
 pub returns-then-place-ge-MOST_AT_ADDRESS : goal.returns-then-place-ge-MOST_AT_ADDRESS

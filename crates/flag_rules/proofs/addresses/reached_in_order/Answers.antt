@@ -1,9 +1,6 @@
-use Rattle.std.proofs.Common.{rules, ◌≡◌, subst, List}
+use Rattle.std.proofs.{Common.{rules, ◌≡◌, subst, List}, lemmas.List.Sorted.answers_always}
 use Rattle.std.specs.List.Sorted.{IsPermutation}
-use Rattle.std.proofs.lemmas.List.Sorted.{answers_always}
-use Rattle.flag_rules.specs.declared.relay.RuledRelay.{RuledRelay}
-use Rattle.flag_rules.specs.Standings.{reached_relays}
-use Rattle.flag_rules.specs.Private.{is_before}
+use Rattle.flag_rules.specs.{declared.relay.RuledRelay.RuledRelay, Standings.reached_relays, Private.is_before}
 use Rattle.flag_rules.proofs.Ahead.{weak_order}
 use Rattle.flag_rules.proofs.addresses.reached_in_order.Goals as goal
 

@@ -1,7 +1,5 @@
-use Rattle.std.proofs.Common.{rules, ◌≡◌, ◌∙◌, sym, ap, get_or}
-use Rattle.std.specs.Prelude.{IsTrue}
-use Rattle.flag_rules.specs.Flags.{flags_of}
-use Rattle.flag_rules.proofs.RuledRelays.{ruled_again, are_rulings}
+use Rattle.std.{proofs.Common.{rules, ◌≡◌, ◌∙◌, sym, ap, get_or}, specs.Prelude.IsTrue}
+use Rattle.flag_rules.{specs.Flags.flags_of, proofs.RuledRelays.{ruled_again, are_rulings}}
 use Rattle.flag_rules.proofs.assigned.assign.Goals as goal
 
 pub returns-clause-allowed : goal.returns-clause-allowed

@@ -1,5 +1,4 @@
-use Rattle.std.proofs.Common.{◌≡◌, map, take}
-use Rattle.std.specs.Prelude.{All}
+use Rattle.std.{proofs.Common.{◌≡◌, map, take}, specs.Prelude.All}
 use Rattle.flag_rules.proofs.assigned.rule_all.Given as goal
 
 abbrev pub invariant-loop-facts : goal.invariant-loop-facts

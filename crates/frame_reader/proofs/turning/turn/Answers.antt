@@ -1,9 +1,7 @@
-use Rattle.std.proofs.Common.{◌∙◌, ap}
-use Rattle.std.proofs.lemmas.Result.{err_from_is_err_and}
+use Rattle.std.proofs.{Common.{◌∙◌, ap}, lemmas.Result.err_from_is_err_and}
 use Rattle.dirdoc_grammar.specs.Seen.{seen_item}
 use Rattle.frame_terms.specs.Documents.{finish}
-use Rattle.frame_reader.specs.Steps.{made_of}
-use Rattle.frame_reader.proofs.Stepping.{fails, goes_on}
+use Rattle.frame_reader.{specs.Steps.made_of, proofs.Stepping.{fails, goes_on}}
 use Rattle.frame_reader.proofs.turning.turn.Goals as goal
 
 pub returns-in_ok-opens-in-Opens : goal.returns-in_ok-opens-in-Opens

@@ -1,5 +1,4 @@
-use Rattle.std.proofs.Common.{◌<◌, ℕ}
-use Rattle.std.specs.Prelude.{◌≢◌, slice_index_or}
+use Rattle.std.{proofs.Common.{◌<◌, ℕ}, specs.Prelude.{◌≢◌, slice_index_or}}
 use Rattle.gate_workers.specs.declared.worker.End.TheVariants as ends
 use Rattle.gate_workers.proofs.running.any_fault.Given as goal
 

@@ -1,6 +1,5 @@
 use Rattle.std.proofs.Common.{rules, ◌≡◌, length, subst}
-use Rattle.gate_workers.specs.Workers.{AnyFault}
-use Rattle.gate_workers.proofs.Endings.{heard, worked}
+use Rattle.gate_workers.{specs.Workers.AnyFault, proofs.Endings.{heard, worked}}
 use Rattle.gate_workers.proofs.running.run.Goals as goal
 
 pub returns-then-any_fault-clause-ran : goal.returns-then-any_fault-clause-ran

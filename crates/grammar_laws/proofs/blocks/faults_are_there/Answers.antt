@@ -1,5 +1,4 @@
-use Rattle.grammar_laws.proofs.BlockFronts.{fault_is_there}
-use Rattle.grammar_laws.proofs.BlockReading.{fault_is_found}
+use Rattle.grammar_laws.proofs.{BlockFronts.fault_is_there, BlockReading.fault_is_found}
 use Rattle.grammar_laws.proofs.blocks.faults_are_there.Goals as goal
 
 pub returns : goal.returns

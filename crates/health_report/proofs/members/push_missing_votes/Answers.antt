@@ -1,5 +1,4 @@
-use Rattle.health_report.specs.Reports.{missing_vote}
-use Rattle.health_report.proofs.Loops.{at_place, text_more}
+use Rattle.health_report.{specs.Reports.missing_vote, proofs.Loops.{at_place, text_more}}
 use Rattle.health_report.proofs.members.push_missing_votes.Goals as goal
 
 pub members-preserved : goal.members-preserved

@@ -1,5 +1,4 @@
-use Rattle.health_report.specs.Reports.{signer_line}
-use Rattle.health_report.proofs.Loops.{at_place, text_more}
+use Rattle.health_report.{specs.Reports.signer_line, proofs.Loops.{at_place, text_more}}
 use Rattle.health_report.proofs.members.push_signers.Goals as goal
 
 pub members-preserved : goal.members-preserved

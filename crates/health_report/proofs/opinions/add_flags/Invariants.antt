@@ -1,5 +1,4 @@
-use Rattle.std.proofs.Common.{◌≡◌, drop}
-use Rattle.std.specs.List.{fold}
+use Rattle.std.{proofs.Common.{◌≡◌, drop}, specs.List.fold}
 use Rattle.dir_values.specs.FlagSets.{with_flag}
 use Rattle.health_report.proofs.opinions.add_flags.Given as goal
 

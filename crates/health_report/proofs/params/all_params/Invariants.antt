@@ -1,5 +1,4 @@
-use Rattle.std.proofs.Common.{◌≡◌, drop}
-use Rattle.std.specs.List.{fold, flat_map}
+use Rattle.std.{proofs.Common.{◌≡◌, drop}, specs.List.{fold, flat_map}}
 use Rattle.dir_values.specs.FlagSets.{with_flag, as_set}
 use Rattle.health_report.specs.Lines.{param_names}
 use Rattle.health_report.proofs.params.all_params.Given as goal

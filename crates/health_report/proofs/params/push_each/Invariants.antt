@@ -1,5 +1,4 @@
-use Rattle.std.proofs.Common.{◌≡◌, ◌++◌, drop}
-use Rattle.std.specs.List.{flat_map}
+use Rattle.std.{proofs.Common.{◌≡◌, ◌++◌, drop}, specs.List.flat_map}
 use Rattle.health_report.specs.Lines.{param_line}
 use Rattle.health_report.proofs.params.push_each.Given as goal
 

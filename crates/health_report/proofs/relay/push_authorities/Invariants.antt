@@ -1,5 +1,4 @@
-use Rattle.std.proofs.Common.{◌≡◌, ◌++◌, drop}
-use Rattle.std.specs.List.{flat_map}
+use Rattle.std.{proofs.Common.{◌≡◌, ◌++◌, drop}, specs.List.flat_map}
 use Rattle.health_report.specs.Lines.{authority_word}
 use Rattle.health_report.proofs.relay.push_authorities.Given as goal
 

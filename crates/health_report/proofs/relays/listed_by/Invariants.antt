@@ -1,5 +1,4 @@
-use Rattle.std.proofs.Common.{◌≡◌, drop}
-use Rattle.std.specs.List.{fold}
+use Rattle.std.{proofs.Common.{◌≡◌, drop}, specs.List.fold}
 use Rattle.dir_values.specs.FlagSets.{with_flag, as_set}
 use Rattle.health_report.specs.Reports.{router_identities}
 use Rattle.health_report.proofs.relays.listed_by.Given as goal

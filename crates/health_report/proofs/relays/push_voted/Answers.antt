@@ -1,12 +1,8 @@
-use Rattle.std.proofs.Common.{◌≡◌, ◌++◌, ◌∙◌, ap, sym, subst, List, map, arith}
-use Rattle.std.specs.List.{flat_map}
+use Rattle.std.{proofs.Common.{◌≡◌, ◌++◌, ◌∙◌, ap, sym, subst, List, map, arith}, specs.List.flat_map}
 use Rattle.dir_values.specs.declared.digest.Fingerprint.{Fingerprint}
 use Rattle.compute_terms.specs.Listings.{AreMembers, identities_in, listings_at}
-use Rattle.relay_select.specs.Walks.{Walk, Group, group_of, groups}
-use Rattle.relay_select.proofs.Steps.{step, identities_back}
-use Rattle.health_report.specs.Reports.{lines_of}
-use Rattle.health_report.proofs.Loops.{text_more}
-use Rattle.health_report.proofs.RelayWords.{relays_done}
+use Rattle.relay_select.{specs.Walks.{Walk, Group, group_of, groups}, proofs.Steps.{step, identities_back}}
+use Rattle.health_report.{specs.Reports.lines_of, proofs.{Loops.text_more, RelayWords.relays_done}}
 use Rattle.health_report.proofs.relays.push_voted.Goals as goal
 
 pub relays-init : goal.relays-init

@@ -1,5 +1,4 @@
-use Rattle.std.proofs.Common.{◌≡◌, ◌++◌, ◌≤◌, map, length, vec_capacity}
-use Rattle.std.specs.List.{flat_map}
+use Rattle.std.{proofs.Common.{◌≡◌, ◌++◌, ◌≤◌, map, length, vec_capacity}, specs.List.flat_map}
 use Rattle.compute_terms.specs.Listings.{identities_in}
 use Rattle.relay_select.specs.Walks.{Group, group_of}
 use Rattle.health_report.specs.Reports.{lines_of}

@@ -1,7 +1,5 @@
-use Rattle.std.proofs.Common.{◌<◌, ◌∙◌, length, map, ap, take_all, arith}
-use Rattle.std.proofs.lemmas.List.{length-map}
-use Rattle.health_report.specs.Signers.{key_of}
-use Rattle.health_report.proofs.VoteKeys.{one_more_vote_key}
+use Rattle.std.proofs.{Common.{◌<◌, ◌∙◌, length, map, ap, take_all, arith}, lemmas.List.length-map}
+use Rattle.health_report.{specs.Signers.key_of, proofs.VoteKeys.one_more_vote_key}
 use Rattle.health_report.proofs.signing.keys_of.Goals as goal
 
 pub votes-preserved : goal.votes-preserved

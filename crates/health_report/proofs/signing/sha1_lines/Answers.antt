@@ -1,5 +1,4 @@
-use Rattle.health_report.specs.Signers.{is_sha1}
-use Rattle.health_report.proofs.Loops.{at_item, filter_more}
+use Rattle.health_report.{specs.Signers.is_sha1, proofs.Loops.{at_item, filter_more}}
 use Rattle.health_report.proofs.signing.sha1_lines.Goals as goal
 
 pub lines-preserved : goal.lines-preserved

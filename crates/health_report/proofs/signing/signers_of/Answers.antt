@@ -1,7 +1,5 @@
-use Rattle.std.proofs.Common.{List, sym, subst}
-use Rattle.std.specs.Prelude.{AllPairs}
-use Rattle.detached_sigs.specs.Signers.{AreApart}
-use Rattle.detached_sigs.specs.declared.key.SignerKey.{SignerKey}
+use Rattle.std.{proofs.Common.{List, sym, subst}, specs.Prelude.AllPairs}
+use Rattle.detached_sigs.specs.{Signers.AreApart, declared.key.SignerKey.SignerKey}
 use Rattle.health_report.proofs.VoteKeys.{keys_apart}
 use Rattle.health_report.proofs.signing.signers_of.Goals as goal
 

@@ -1,8 +1,7 @@
-use Rattle.std.proofs.Common.{◌≡◌, ◌∙◌, ◌∷◌, [], ℕ, List, Option, length, ap, sym, subst, arith}
-use Rattle.std.specs.Borrow.{Bor}
-use Rattle.http_words.specs.DigestLists.{SplitsOff, parts_of, digests_of}
-use Rattle.http_words.proofs.Digests.{behind, splits, none_before, no_digest, digest_added, last_digest}
-use Rattle.http_words.proofs.Digests.{some_part, no_list, too_many, few}
+use Rattle.std.{proofs.Common.{◌≡◌, ◌∙◌, ◌∷◌, [], ℕ, List, Option, length, ap, sym, subst, arith}, specs.Borrow.Bor}
+use Rattle.http_words.{specs.DigestLists.{SplitsOff, parts_of, digests_of}, proofs.Digests.{behind, splits}}
+use Rattle.http_words.proofs.Digests.{none_before, no_digest, digest_added, last_digest, some_part, no_list, too_many}
+use Rattle.http_words.proofs.Digests.{few}
 use Rattle.http_words.proofs.digest_list.read_digests.Goals as goal
 
 pub parts-init : goal.parts-init

@@ -1,6 +1,5 @@
 use Rattle.std.proofs.Common.{◌≡◌, ◌+◌, ◌-◌, ◌≤◌, length, vec_len}
-use Rattle.http_words.specs.DigestLists.{digest_limit, parts_of, digests_of}
-use Rattle.http_words.proofs.Digests.{behind}
+use Rattle.http_words.{specs.DigestLists.{digest_limit, parts_of, digests_of}, proofs.Digests.behind}
 use Rattle.http_words.proofs.digest_list.read_digests.Given as goal
 
 abbrev pub invariant-parts : goal.invariant-parts

@@ -1,7 +1,5 @@
-use Rattle.std.proofs.Common.{◌∙◌, ◌+◌, ◌∷◌, ℕ, List, take, ap, sym}
-use Rattle.std.proofs.lemmas.List.{take_rest}
-use Rattle.http_words.specs.DigestLists.{parts_of}
-use Rattle.http_words.proofs.Digests.{first_part}
+use Rattle.std.proofs.{Common.{◌∙◌, ◌+◌, ◌∷◌, ℕ, List, take, ap, sym}, lemmas.List.take_rest}
+use Rattle.http_words.{specs.DigestLists.parts_of, proofs.Digests.first_part}
 use Rattle.http_words.proofs.digest_list.split_off.Goals as goal
 
 pub returns-then-length-text : goal.returns-then-length-text

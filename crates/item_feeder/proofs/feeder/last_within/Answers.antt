@@ -1,10 +1,9 @@
-use Rattle.std.proofs.Common.{◌≡◌, ◌≤◌, Bool, true, false, eqb, ap, ◌∙◌, arith}
+use Rattle.std.proofs.{Common.{◌≡◌, ◌≤◌, Bool, true, false, eqb, ap, ◌∙◌, arith}, lemmas.Bool.{eq-eqb, ne_eqb}}
 use Rattle.std.specs.Prelude.{◌&&◌}
-use Rattle.std.proofs.lemmas.Bool.{eq-eqb, ne_eqb}
 use Rattle.item_terms.specs.declared.fault.DocReason.{DocReason}
 use Rattle.dirdoc_grammar.specs.Cursors.{fed_by}
-use Rattle.item_feeder.proofs.LastWithin.{over_by, settled_by}
-use Rattle.item_feeder.proofs.Beside.{item_shows, fault_shows, other_shows, open_shows}
+use Rattle.item_feeder.proofs.{LastWithin.{over_by, settled_by}, Beside.{item_shows, fault_shows, other_shows}}
+use Rattle.item_feeder.proofs.Beside.{open_shows}
 use Rattle.item_feeder.proofs.feeder.last_within.Goals.{else-beside-eq45-via-then-beside-eq45+else-item-limit}
 use Rattle.item_feeder.proofs.feeder.last_within.Goals.{else-beside-eq45-via-else-beside-eq45}
 use Rattle.item_feeder.proofs.feeder.last_within.Goals as goal

@@ -1,5 +1,4 @@
-use Rattle.std.proofs.Common.{◌≤◌, take}
-use Rattle.std.specs.Io.KnownBytes.{Consumes}
+use Rattle.std.{proofs.Common.{◌≤◌, take}, specs.Io.KnownBytes.Consumes}
 use Rattle.key_port.proofs.asking.gives.Given as goal
 
 abbrev pub invariant-bytes : goal.invariant-bytes

@@ -1,5 +1,4 @@
-use Rattle.std.proofs.Common.{Result, Ok, Err, arith, subst, sym}
-use Rattle.std.specs.Prelude.{◌≡◌, List, ℕ, IfOk}
+use Rattle.std.{proofs.Common.{Result, Ok, Err, arith, subst, sym}, specs.Prelude.{◌≡◌, List, ℕ, IfOk}}
 use Rattle.hex.specs.Hex.{IsBytes}
 use Rattle.key_port.proofs.signer.signature_text.Goals as goal
 

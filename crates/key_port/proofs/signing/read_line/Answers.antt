@@ -1,6 +1,5 @@
 use Rattle.std.proofs.Common.{arith, rules}
-use Rattle.key_port.specs.Requests.{line_limit}
-use Rattle.key_port.proofs.SignedWords.{ends_early, is_too_long}
+use Rattle.key_port.{specs.Requests.line_limit, proofs.SignedWords.{ends_early, is_too_long}}
 use Rattle.key_port.proofs.signing.read_line.Goals as goal
 
 pub returns-in_default-clause-others : goal.returns-in_default-clause-others

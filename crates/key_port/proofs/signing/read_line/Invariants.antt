@@ -1,7 +1,5 @@
-use Rattle.std.proofs.Common.{◌≡◌, ◌≤◌, ◌-◌, true, length}
-use Rattle.std.specs.Io.KnownBytes.{Consumes}
-use Rattle.key_port.specs.Requests.{line_limit}
-use Rattle.key_port.specs.SignedLines.{has_no_end}
+use Rattle.std.{proofs.Common.{◌≡◌, ◌≤◌, ◌-◌, true, length}, specs.Io.KnownBytes.Consumes}
+use Rattle.key_port.specs.{Requests.line_limit, SignedLines.has_no_end}
 use Rattle.key_port.proofs.signing.read_line.Given as goal
 
 abbrev pub invariant-bytes : goal.invariant-bytes

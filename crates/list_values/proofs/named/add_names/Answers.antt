@@ -1,10 +1,7 @@
 use Rattle.std.proofs.Common.{◌≡◌, ◌<◌, ◌+◌, ℕ, List, [], ◌∷◌, ◌++◌, length, get_or, take, map, ap, sym, ◌∙◌}
-use Rattle.std.proofs.lemmas.List.{map_more, take-map}
-use Rattle.std.proofs.lemmas.List.Sums.{fold-append}
-use Rattle.std.specs.List.{fold}
+use Rattle.std.{proofs.lemmas.List.{map_more, take-map, Sums.fold-append}, specs.List.fold}
 use Rattle.dir_values.specs.FlagSets.{with_flag}
-use Rattle.list_values.specs.declared.named.Named.{Named}
-use Rattle.list_values.specs.Maps.{names_of}
+use Rattle.list_values.specs.{declared.named.Named.Named, Maps.names_of}
 use Rattle.list_values.proofs.named.add_names.Goals as goal
 
 -- one more name is one more word

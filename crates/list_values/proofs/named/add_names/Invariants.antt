@@ -1,5 +1,4 @@
-use Rattle.std.proofs.Common.{◌≡◌, take}
-use Rattle.std.specs.List.{fold}
+use Rattle.std.{proofs.Common.{◌≡◌, take}, specs.List.fold}
 use Rattle.dir_values.specs.FlagSets.{with_flag}
 use Rattle.list_values.specs.Maps.{names_of}
 use Rattle.list_values.proofs.named.add_names.Given as goal

@@ -1,8 +1,6 @@
-use Rattle.std.proofs.Common.{rules, sym, arith}
-use Rattle.std.proofs.lemmas.List.Sorted.{IsPartitionPoint-from_clause}
+use Rattle.std.proofs.{Common.{rules, sym, arith}, lemmas.List.Sorted.IsPartitionPoint-from_clause}
 use Rattle.dir_values.specs.Digests.{bytes_below}
-use Rattle.list_values.specs.declared.named.Named.{Named}
-use Rattle.list_values.proofs.NamePlaces.{front_is, parted}
+use Rattle.list_values.{specs.declared.named.Named.Named, proofs.NamePlaces.{front_is, parted}}
 use Rattle.list_values.proofs.named.place_of.Goals as goal
 
 pub returns-clause-count : goal.returns-clause-count

@@ -1,6 +1,5 @@
 use Rattle.std.proofs.Common.{sym, ap, ◌∙◌, ℕ}
-use Rattle.list_values.specs.Lending.{value_there}
-use Rattle.list_values.proofs.NamePlaces.{value_at_place}
+use Rattle.list_values.{specs.Lending.value_there, proofs.NamePlaces.value_at_place}
 use Rattle.list_values.proofs.named.value_for.Goals as goal
 
 pub returns : goal.returns

@@ -1,12 +1,7 @@
-use Rattle.std.proofs.Common.{◌≡◌, ℕ, List, ap, ap₂, sym, ◌∙◌, subst, ℤ, rules}
-use Rattle.std.specs.Prelude.{IfOk}
-use Rattle.std.specs.List.{fold}
+use Rattle.std.{proofs.Common.{◌≡◌, ℕ, List, ap, ap₂, sym, ◌∙◌, subst, ℤ, rules}, specs.{Prelude.IfOk, List.fold}}
 use Rattle.item_terms.specs.Words.{words_of}
-use Rattle.dir_values.specs.Arguments.{Argument, texts_of}
-use Rattle.dir_values.proofs.ArgumentWords.{arguments_words}
-use Rattle.list_values.specs.declared.named.Named.{Named}
-use Rattle.list_values.specs.Maps.{with_value}
-use Rattle.list_values.specs.Params.{with_param, as_params}
+use Rattle.dir_values.{specs.Arguments.{Argument, texts_of}, proofs.ArgumentWords.arguments_words}
+use Rattle.list_values.specs.{declared.named.Named.Named, Maps.with_value, Params.{with_param, as_params}}
 use Rattle.list_values.proofs.param_list.params_in.Goals as goal
 
 pub arguments-init : goal.arguments-init

@@ -1,5 +1,4 @@
-use Rattle.std.proofs.Common.{◌≡◌, length}
-use Rattle.std.specs.List.{fold}
+use Rattle.std.{proofs.Common.{◌≡◌, length}, specs.List.fold}
 use Rattle.item_terms.specs.Words.{words_of}
 use Rattle.dir_values.specs.Arguments.{texts_of}
 use Rattle.list_values.specs.Params.{with_param, as_params}

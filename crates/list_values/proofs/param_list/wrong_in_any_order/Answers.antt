@@ -1,8 +1,7 @@
 use Rattle.std.proofs.Common.{rules, ◌≡◌, ℕ, true, false, List, sym, ap, ◌∙◌, subst, map}
-use Rattle.dir_values.specs.Arguments.{Argument, arguments_at}
-use Rattle.dir_values.specs.FlagSets.{is_name, has_flag, with_flag}
-use Rattle.dir_values.specs.Taking.{argument_of}
-use Rattle.dir_values.proofs.ListedFlags.{Listed, Walks, listed_first, listed_next, wrong_name, wrong_twice, none_wrong}
+use Rattle.dir_values.specs.{Arguments.{Argument, arguments_at}, FlagSets.{is_name, has_flag, with_flag}}
+use Rattle.dir_values.{specs.Taking.argument_of, proofs.ListedFlags.{Listed, Walks, listed_first, listed_next}}
+use Rattle.dir_values.proofs.ListedFlags.{wrong_name, wrong_twice, none_wrong}
 use Rattle.list_values.specs.Params.{its_name}
 use Rattle.list_values.proofs.param_list.wrong_in_any_order.Goals as goal
 

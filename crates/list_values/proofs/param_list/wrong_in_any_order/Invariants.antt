@@ -1,6 +1,5 @@
 use Rattle.std.proofs.Common.{length, map}
-use Rattle.dir_values.specs.Arguments.{arguments_at}
-use Rattle.dir_values.proofs.ListedFlags.{Listed}
+use Rattle.dir_values.{specs.Arguments.arguments_at, proofs.ListedFlags.Listed}
 use Rattle.list_values.specs.Params.{its_name}
 use Rattle.list_values.proofs.param_list.wrong_in_any_order.Given as goal
 

@@ -1,9 +1,7 @@
 use Rattle.std.proofs.Common.{rules, ◌≡◌, true, false, sym, ap, ◌∙◌, subst, List, ℕ, [], map}
-use Rattle.dir_values.specs.Arguments.{Argument, arguments_at}
-use Rattle.dir_values.specs.Digests.{bytes_below}
-use Rattle.dir_values.specs.FlagSets.{is_name}
-use Rattle.dir_values.specs.Taking.{argument_of}
-use Rattle.dir_values.proofs.ListedFlags.{Ascends, Walks, ascends_first, ascends_next, wrong_name, none_wrong}
+use Rattle.dir_values.specs.{Arguments.{Argument, arguments_at}, Digests.bytes_below, FlagSets.is_name}
+use Rattle.dir_values.{specs.Taking.argument_of, proofs.ListedFlags.{Ascends, Walks, ascends_first, ascends_next}}
+use Rattle.dir_values.proofs.ListedFlags.{wrong_name, none_wrong}
 use Rattle.list_values.specs.Params.{its_name}
 use Rattle.list_values.proofs.param_list.wrong_while_ascending.Goals as goal
 

@@ -1,6 +1,5 @@
 use Rattle.std.proofs.Common.{length, map}
-use Rattle.dir_values.specs.Arguments.{arguments_at}
-use Rattle.dir_values.proofs.ListedFlags.{Ascends}
+use Rattle.dir_values.{specs.Arguments.arguments_at, proofs.ListedFlags.Ascends}
 use Rattle.list_values.specs.Params.{its_name}
 use Rattle.list_values.proofs.param_list.wrong_while_ascending.Given as goal
 

@@ -1,10 +1,6 @@
-use Rattle.std.proofs.Common.{rules, ◌≡◌, ◌≤◌, ◌<◌, ℕ, List, false, sym, ap, ◌∙◌}
-use Rattle.std.specs.Prelude.{nat_lt, unwrap_or}
-use Rattle.list_values.specs.Maps.{value_at}
-use Rattle.list_values.specs.Masks.{is_set}
-use Rattle.list_values.specs.NumberSets.{has_number}
-use Rattle.list_values.proofs.ListedProtocols.{numbers_listed}
-use Rattle.list_values.proofs.NumberLists.{has_those, has_no_more}
+use Rattle.std.{proofs.Common.{rules, ◌≡◌, ◌≤◌, ◌<◌, ℕ, List, false, sym, ap, ◌∙◌}, specs.Prelude.{nat_lt, unwrap_or}}
+use Rattle.list_values.specs.{Maps.value_at, Masks.is_set, NumberSets.has_number}
+use Rattle.list_values.proofs.{ListedProtocols.numbers_listed, NumberLists.{has_those, has_no_more}}
 use Rattle.list_values.proofs.proto_ranges.has_version.Goals as goal
 
 pub returns-then-number-lt64 : goal.returns-then-number-lt64

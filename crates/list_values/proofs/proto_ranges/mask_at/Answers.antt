@@ -1,7 +1,5 @@
-use Rattle.std.proofs.Common.{ℕ, Option, ap, ◌∙◌}
-use Rattle.std.specs.Prelude.{unwrap_or}
-use Rattle.list_values.specs.Masks.{numbers_of}
-use Rattle.list_values.proofs.ListedProtocols.{numbers_listed}
+use Rattle.std.{proofs.Common.{ℕ, Option, ap, ◌∙◌}, specs.Prelude.unwrap_or}
+use Rattle.list_values.{specs.Masks.numbers_of, proofs.ListedProtocols.numbers_listed}
 use Rattle.list_values.proofs.proto_ranges.mask_at.Goals as goal
 
 pub returns : goal.returns

@@ -1,6 +1,5 @@
 use Rattle.std.proofs.Common.{ℕ, List, ◌∷◌, Option, map, sym, ap, ◌∙◌}
-use Rattle.list_values.specs.declared.number_range.NumberRange.{NumberRange}
-use Rattle.list_values.specs.Protocols.{range_of}
+use Rattle.list_values.specs.{declared.number_range.NumberRange.NumberRange, Protocols.range_of}
 use Rattle.list_values.proofs.ListedRanges.{numbers_after, after_more}
 use Rattle.list_values.proofs.protocol_list.mask_in.Goals as goal
 

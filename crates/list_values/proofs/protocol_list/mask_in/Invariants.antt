@@ -1,7 +1,5 @@
 use Rattle.std.proofs.Common.{◌≡◌, length, map}
-use Rattle.list_values.specs.Lending.{part_numbers}
-use Rattle.list_values.specs.Protocols.{range_of}
-use Rattle.list_values.proofs.ListedRanges.{numbers_after}
+use Rattle.list_values.{specs.{Lending.part_numbers, Protocols.range_of}, proofs.ListedRanges.numbers_after}
 use Rattle.list_values.proofs.protocol_list.mask_in.Given as goal
 
 abbrev pub invariant-parts : goal.invariant-parts

@@ -1,15 +1,9 @@
-use Rattle.std.proofs.Common.{◌≡◌, ℕ, List, ap, ap₂, sym, ◌∙◌}
-use Rattle.std.specs.List.{fold}
+use Rattle.std.{proofs.Common.{◌≡◌, ℕ, List, ap, ap₂, sym, ◌∙◌}, specs.List.fold}
 use Rattle.item_terms.specs.Words.{words_of}
-use Rattle.dir_values.specs.Arguments.{Argument, texts_of}
-use Rattle.dir_values.proofs.ArgumentWords.{arguments_words}
-use Rattle.list_values.specs.declared.named.Named.{Named}
-use Rattle.list_values.specs.Maps.{with_value}
-use Rattle.list_values.specs.Masks.{all_listed, numbers_of}
-use Rattle.list_values.specs.NumberSets.{united_numbers}
-use Rattle.list_values.specs.Protocols.{with_protocol, numbers_at, numbers_in}
-use Rattle.list_values.proofs.ListedProtocols.{listed-with_value}
-use Rattle.list_values.proofs.NumberLists.{united_masks}
+use Rattle.dir_values.{specs.Arguments.{Argument, texts_of}, proofs.ArgumentWords.arguments_words}
+use Rattle.list_values.specs.{declared.named.Named.Named, Maps.with_value, Masks.{all_listed, numbers_of}}
+use Rattle.list_values.specs.{NumberSets.united_numbers, Protocols.{with_protocol, numbers_at, numbers_in}}
+use Rattle.list_values.proofs.{ListedProtocols.listed-with_value, NumberLists.united_masks}
 use Rattle.list_values.proofs.protocol_list.protocols_in.Goals as goal
 
 pub arguments-init : goal.arguments-init

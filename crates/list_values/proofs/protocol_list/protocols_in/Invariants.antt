@@ -1,9 +1,7 @@
-use Rattle.std.proofs.Common.{◌≡◌, length}
-use Rattle.std.specs.List.{fold}
+use Rattle.std.{proofs.Common.{◌≡◌, length}, specs.List.fold}
 use Rattle.item_terms.specs.Words.{words_of}
 use Rattle.dir_values.specs.Arguments.{texts_of}
-use Rattle.list_values.specs.Masks.{all_listed}
-use Rattle.list_values.specs.Protocols.{with_protocol, as_protocols}
+use Rattle.list_values.specs.{Masks.all_listed, Protocols.{with_protocol, as_protocols}}
 use Rattle.list_values.proofs.protocol_list.protocols_in.Given as goal
 
 abbrev pub invariant-arguments : goal.invariant-arguments

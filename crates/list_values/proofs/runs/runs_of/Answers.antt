@@ -1,7 +1,6 @@
 use Rattle.std.proofs.Common.{rules, ◌≡◌, ℕ, ◌-◌, true, false, cond, List, ◌∷◌, sym, ap, ◌∙◌, arith, Bool}
 use Rattle.std.specs.Prelude.{filter}
-use Rattle.list_values.specs.Masks.{is_set}
-use Rattle.list_values.specs.NumberSets.{numbers_from, ranges_of, with_number}
+use Rattle.list_values.specs.{Masks.is_set, NumberSets.{numbers_from, ranges_of, with_number}}
 use Rattle.list_values.proofs.NumberLists.{from_end, filter_before}
 use Rattle.list_values.proofs.runs.runs_of.Goals as goal
 

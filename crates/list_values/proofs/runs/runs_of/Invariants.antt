@@ -1,7 +1,5 @@
-use Rattle.std.proofs.Common.{◌≡◌, ◌≤◌, drop}
-use Rattle.std.specs.Prelude.{filter}
-use Rattle.list_values.specs.Masks.{is_set}
-use Rattle.list_values.specs.NumberSets.{numbers_from, ranges_of}
+use Rattle.std.{proofs.Common.{◌≡◌, ◌≤◌, drop}, specs.Prelude.filter}
+use Rattle.list_values.specs.{Masks.is_set, NumberSets.{numbers_from, ranges_of}}
 use Rattle.list_values.proofs.runs.runs_of.Given as goal
 
 abbrev pub invariant-numbers : goal.invariant-numbers

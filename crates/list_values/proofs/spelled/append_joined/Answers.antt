@@ -1,5 +1,4 @@
-use Rattle.std.proofs.Common.{rules, map}
-use Rattle.std.specs.List.{join_with_byte}
+use Rattle.std.{proofs.Common.{rules, map}, specs.List.join_with_byte}
 use Rattle.text_page.proofs.Pages.{capacity_kept}
 use Rattle.list_values.proofs.spelled.append_joined.Goals as goal
 

@@ -1,5 +1,4 @@
-use Rattle.std.proofs.Common.{map, refl, ap, sym, ◌∙◌}
-use Rattle.std.specs.List.{join_with_byte}
+use Rattle.std.{proofs.Common.{map, refl, ap, sym, ◌∙◌}, specs.List.join_with_byte}
 use Rattle.text_page.proofs.Pages.{also, same_text, no_list}
 use Rattle.list_values.proofs.Joining.{join-cons}
 use Rattle.list_values.proofs.spelled.put_joined.Goals as goal

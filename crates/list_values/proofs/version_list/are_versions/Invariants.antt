@@ -1,5 +1,4 @@
-use Rattle.std.proofs.Common.{◌≡◌, length}
-use Rattle.std.specs.List.{list_all}
+use Rattle.std.{proofs.Common.{◌≡◌, length}, specs.List.list_all}
 use Rattle.list_values.specs.VersionLists.{is_version, are_versions}
 use Rattle.list_values.proofs.version_list.are_versions.Given as goal
 

@@ -1,7 +1,5 @@
 use Rattle.std.proofs.Common.{subst}
-use Rattle.lone_vote.specs.declared.coming.Known.{Known}
-use Rattle.lone_vote.specs.Coming.{IsKnown}
-use Rattle.lone_vote.proofs.KnownVotes.{begins_more, none_more}
+use Rattle.lone_vote.{specs.{declared.coming.Known.Known, Coming.IsKnown}, proofs.KnownVotes.{begins_more, none_more}}
 use Rattle.lone_vote.proofs.coming.known_with.Goals as goal
 
 pub returns-in-Whole : goal.returns-in-Whole

@@ -1,7 +1,6 @@
 use Rattle.std.proofs.Common.{subst}
-use Rattle.lone_vote.specs.declared.coming.Known.{Known}
-use Rattle.lone_vote.specs.Coming.{IsKnown}
-use Rattle.lone_vote.proofs.KnownVotes.{found_whole, none_at_end, none_whole, open_none}
+use Rattle.lone_vote.{specs.{declared.coming.Known.Known, Coming.IsKnown}, proofs.KnownVotes.{found_whole, none_at_end}}
+use Rattle.lone_vote.proofs.KnownVotes.{none_whole, open_none}
 use Rattle.lone_vote.proofs.coming.vote_at_end.Goals as goal
 
 pub returns-in-Coming : goal.returns-in-Coming

@@ -1,5 +1,4 @@
-use Rattle.std.proofs.Common.{◌≡◌, ◌≤◌, ◌-◌, ℕ, List, length}
-use Rattle.std.specs.Io.KnownBytes.{Consumes}
+use Rattle.std.{proofs.Common.{◌≡◌, ◌≤◌, ◌-◌, ℕ, List, length}, specs.Io.KnownBytes.Consumes}
 use Rattle.dir_http.specs.Requests.{body_ahead}
 use Rattle.lone_vote.specs.Coming.{HasCome}
 use Rattle.lone_vote.proofs.reading.read_vote.Given as goal

@@ -1,8 +1,5 @@
-use Rattle.std.proofs.Common.{sym, subst}
-use Rattle.std.specs.Prelude.{All}
-use Rattle.std.proofs.lemmas.List.Elements.{All-push, All-same}
-use Rattle.period_lock.specs.Turns.{IsOf}
-use Rattle.period_lock.proofs.Meeting.{all_but_last}
+use Rattle.std.{proofs.{Common.{sym, subst}, lemmas.List.Elements.{All-push, All-same}}, specs.Prelude.All}
+use Rattle.period_lock.{specs.Turns.IsOf, proofs.Meeting.all_but_last}
 use Rattle.low_checks.proofs.turns.close_after_a_refusal.Goals as goal
 
 pub close-requires : goal.close-requires

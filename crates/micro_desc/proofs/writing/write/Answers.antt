@@ -1,10 +1,8 @@
 use Rattle.std.proofs.Common.{◌∙◌, ◌++◌, List, ℕ, ap, sym}
 use Rattle.dirdoc_grammar.specs.Writing.{item_text, items_text}
 use Rattle.frame_terms.specs.declared.keyword.Keyword.TheVariants as the
-use Rattle.frame_values.proofs.ItemsTexts.{link}
-use Rattle.frame_values.specs.Items.{item_if}
-use Rattle.micro_desc.specs.Texts.{onion_key_item, ntor_key_items, family_items, id_items}
-use Rattle.micro_desc.proofs.MicroTexts.{parts}
+use Rattle.frame_values.{proofs.ItemsTexts.link, specs.Items.item_if}
+use Rattle.micro_desc.{specs.Texts.{onion_key_item, ntor_key_items, family_items, id_items}, proofs.MicroTexts.parts}
 use Rattle.micro_desc.proofs.writing.write.Goals as goal
 
 pub returns : goal.returns

@@ -1,6 +1,5 @@
 use Rattle.std.proofs.Common.{ap}
-use Rattle.mirror_core.specs.States.{KeptCert}
-use Rattle.mirror_core.proofs.WithCert.{joined}
+use Rattle.mirror_core.{specs.States.KeptCert, proofs.WithCert.joined}
 use Rattle.mirror_core.proofs.cert_copies.with_cert.Goals as goal
 
 pub returns : goal.returns

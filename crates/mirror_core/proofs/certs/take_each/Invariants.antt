@@ -1,7 +1,6 @@
 use Rattle.std.proofs.Common.{◌≡◌, ◌+◌, ◌<◌, ◌-◌, ◌^◌, length}
 use Rattle.key_port.specs.Answers.{rules}
-use Rattle.mirror_core.specs.Answers.{CertTally, TakesEach, no_certs_yet}
-use Rattle.mirror_core.specs.Tallies.{cert_total}
+use Rattle.mirror_core.specs.{Answers.{CertTally, TakesEach, no_certs_yet}, Tallies.cert_total}
 use Rattle.mirror_core.proofs.certs.take_each.Given as goal
 
 -- what comes of those that are left, behind those so far, comes of all

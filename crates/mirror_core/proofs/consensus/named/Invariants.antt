@@ -1,5 +1,4 @@
-use Rattle.std.proofs.Common.{◌≡◌, ◌++◌, drop}
-use Rattle.std.specs.List.{filter_map}
+use Rattle.std.{proofs.Common.{◌≡◌, ◌++◌, drop}, specs.List.filter_map}
 use Rattle.mirror_core.specs.States.{micro_named, named}
 use Rattle.mirror_core.proofs.consensus.named.Given as goal
 

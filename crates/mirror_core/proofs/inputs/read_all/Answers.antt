@@ -1,6 +1,6 @@
 use Rattle.std.proofs.Common.{sym, subst, ◌∙◌}
-use Rattle.mirror_core.specs.Inputs.{Stand}
-use Rattle.mirror_core.proofs.Standing.{one_more_document_at_most, one_there, some_left, stands_more}
+use Rattle.mirror_core.{specs.Inputs.Stand, proofs.Standing.{one_more_document_at_most, one_there, some_left}}
+use Rattle.mirror_core.proofs.Standing.{stands_more}
 use Rattle.mirror_core.proofs.inputs.read_all.Goals as goal
 
 pub documents-preserved : goal.documents-preserved

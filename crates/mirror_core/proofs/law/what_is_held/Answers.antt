@@ -1,5 +1,4 @@
-use Rattle.mirror_core.specs.States.{no_mirror}
-use Rattle.mirror_core.proofs.MirrorLaws.{all_called, nothing}
+use Rattle.mirror_core.{specs.States.no_mirror, proofs.MirrorLaws.{all_called, nothing}}
 use Rattle.mirror_core.proofs.law.what_is_held.Goals as goal
 
 pub returns : goal.returns

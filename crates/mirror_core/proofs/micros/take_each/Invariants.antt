@@ -1,6 +1,5 @@
 use Rattle.std.proofs.Common.{◌≡◌, ◌+◌, ◌<◌, ◌-◌, ◌^◌, length}
-use Rattle.mirror_core.specs.Answers.{no_micros_yet, with_micros}
-use Rattle.mirror_core.specs.Tallies.{total}
+use Rattle.mirror_core.specs.{Answers.{no_micros_yet, with_micros}, Tallies.total}
 use Rattle.mirror_core.proofs.micros.take_each.Given as goal
 
 -- what came of those so far, and what comes of those that are left, is what comes of all

@@ -1,9 +1,7 @@
-use Rattle.std.proofs.Common.{◌≡◌, sym, ap, ◌∙◌}
-use Rattle.std.specs.Prelude.{map, string_bytes}
+use Rattle.std.{proofs.Common.{◌≡◌, sym, ap, ◌∙◌}, specs.Prelude.{map, string_bytes}}
 use Rattle.clap.specs.Words.{App, app_of, fault_of, is_simple, is_simple_and_free, matches_of}
 use Rattle.daemon_words.proofs.Named.{refused}
-use Rattle.mirror_daemon.specs.CommandLine.{command_line, faults, options}
-use Rattle.mirror_daemon.proofs.Apps.{simple, simple_and_free}
+use Rattle.mirror_daemon.{specs.CommandLine.{command_line, faults, options}, proofs.Apps.{simple, simple_and_free}}
 use Rattle.mirror_daemon.proofs.command_line.matches_of.Goals as goal
 
 pub returns-in-Ok : goal.returns-in-Ok

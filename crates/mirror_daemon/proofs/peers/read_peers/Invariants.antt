@@ -1,5 +1,4 @@
-use Rattle.std.proofs.Common.{◌≡◌, ◌≤◌, ◌++◌, true, length}
-use Rattle.std.specs.List.{list_all}
+use Rattle.std.{proofs.Common.{◌≡◌, ◌≤◌, ◌++◌, true, length}, specs.List.list_all}
 use Rattle.daemon_words.specs.Serving.{is_address}
 use Rattle.list_values.specs.Parts.{parts_of}
 use Rattle.mirror_daemon.proofs.peers.read_peers.Given as goal

@@ -1,8 +1,7 @@
 use Rattle.std.proofs.Common.{◌≤◌}
 use Rattle.key_port.specs.Answers.{rules}
 use Rattle.mirror_core.specs.States.{Mirrored}
-use Rattle.mirror_daemon.specs.Keeping.{ComesOf}
-use Rattle.mirror_daemon.specs.Lacking.{lacking_count}
+use Rattle.mirror_daemon.specs.{Keeping.ComesOf, Lacking.lacking_count}
 use Rattle.mirror_daemon.proofs.round.fetch_micros.Given as goal
 
 abbrev pub invariant-batches : goal.invariant-batches

@@ -1,10 +1,7 @@
-use Rattle.std.proofs.Common.{Option, sym, ◌∙◌, subst}
-use Rattle.std.proofs.lemmas.Result.{IfOk-weaker}
-use Rattle.clap.specs.Words.{found_of, rows_of}
-use Rattle.clap.specs.declared.parser.matches.ArgMatches.{ArgMatches}
-use Rattle.mirror_daemon.specs.CommandLine.{faults, options}
-use Rattle.mirror_daemon.specs.Lending.{Matches}
-use Rattle.mirror_daemon.proofs.Options.{nothing_read, values_read}
+use Rattle.std.proofs.{Common.{Option, sym, ◌∙◌, subst}, lemmas.Result.IfOk-weaker}
+use Rattle.clap.specs.{Words.{found_of, rows_of}, declared.parser.matches.ArgMatches.ArgMatches}
+use Rattle.mirror_daemon.{specs.{CommandLine.{faults, options}, Lending.Matches}, proofs.Options.nothing_read}
+use Rattle.mirror_daemon.proofs.Options.{values_read}
 use Rattle.mirror_daemon.proofs.words.mirror_words_of.Goals as goal
 
 pub returns-in_default : goal.returns-in_default

@@ -1,8 +1,6 @@
-use Rattle.std.proofs.Common.{sym, ap, ◌∙◌, ℕ, List}
-use Rattle.std.proofs.lemmas.Result.{IfOk-weaker}
+use Rattle.std.proofs.{Common.{sym, ap, ◌∙◌, ℕ, List}, lemmas.Result.IfOk-weaker}
 use Rattle.clap.specs.Words.{found_of}
-use Rattle.mirror_daemon.specs.Words.{words_of}
-use Rattle.mirror_daemon.proofs.Options.{all_told, no_authorities, no_listen, no_peers}
+use Rattle.mirror_daemon.{specs.Words.words_of, proofs.Options.{all_told, no_authorities, no_listen, no_peers}}
 use Rattle.mirror_daemon.proofs.words.words_in.Goals as goal
 
 pub returns-in_default : goal.returns-in_default

@@ -1,7 +1,5 @@
 use Rattle.std.proofs.Common.{◌≡◌, ap, sym, ◌∙◌, subst, Some, None}
-use Rattle.period_lock.specs.Kept.{part_of}
-use Rattle.period_lock.specs.Turns.{EndsIn}
-use Rattle.period_lock.proofs.Ending.{ends_with}
+use Rattle.period_lock.{specs.{Kept.part_of, Turns.EndsIn}, proofs.Ending.ends_with}
 use Rattle.period_lock.proofs.closing.finish.Goals as goal
 
 none_is : {T : Type 0} (x : T) → None ≡ Some x → ⊥

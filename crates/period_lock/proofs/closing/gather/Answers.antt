@@ -1,7 +1,5 @@
 use Rattle.std.proofs.Common.{[], ◌∷◌, ◌++◌, ap, sym, ◌∙◌, arith, map}
-use Rattle.period_lock.specs.Kept.{gathered_view, part_of}
-use Rattle.period_lock.specs.Turns.{IsOf}
-use Rattle.period_lock.proofs.Parting.{join_allowed}
+use Rattle.period_lock.{specs.{Kept.{gathered_view, part_of}, Turns.IsOf}, proofs.Parting.join_allowed}
 use Rattle.period_lock.proofs.Meeting.{free_of, all_but_last, parts_shift, joined_is}
 use Rattle.period_lock.proofs.closing.gather.Goals as goal
 

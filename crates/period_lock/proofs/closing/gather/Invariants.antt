@@ -1,6 +1,5 @@
 use Rattle.std.proofs.Common.{◌≡◌, [], ◌∷◌, ◌++◌, map, vec_len}
-use Rattle.period_lock.specs.Turns.{AreOf}
-use Rattle.period_lock.specs.Kept.{gathered_view, part_of}
+use Rattle.period_lock.specs.{Turns.AreOf, Kept.{gathered_view, part_of}}
 use Rattle.period_lock.proofs.closing.gather.Given as goal
 
 abbrev pub invariant-loop-pass : goal.invariant-loop-pass

@@ -1,7 +1,6 @@
 use Rattle.std.proofs.Common.{◌≡◌, ℕ, ◌+◌, ◌-◌, suc, ap, sym, ◌∙◌, subst, arith, refl}
-use Rattle.period_lock.specs.Kept.{fresh_part, IsFree}
-use Rattle.period_lock.proofs.Parting.{split_allowed}
-use Rattle.period_lock.proofs.Dealing.{dealt_push, given_away, left_over, last_one}
+use Rattle.period_lock.{specs.Kept.{fresh_part, IsFree}, proofs.{Parting.split_allowed, Dealing.dealt_push}}
+use Rattle.period_lock.proofs.Dealing.{given_away, left_over, last_one}
 use Rattle.period_lock.proofs.opening.deal.Goals as goal
 
 pub split_seat-seat-requires : goal.split_seat-seat-requires

@@ -1,6 +1,5 @@
 use Rattle.std.proofs.Common.{◌≡◌, ◌-◌, ◌≤◌, [], vec_capacity}
-use Rattle.period_lock.specs.Turns.{AreDealt}
-use Rattle.period_lock.specs.Kept.{gathered_view, fresh_part, fresh_parts}
+use Rattle.period_lock.specs.{Turns.AreDealt, Kept.{gathered_view, fresh_part, fresh_parts}}
 use Rattle.period_lock.proofs.opening.deal.Given as goal
 
 abbrev pub invariant-loop-number : goal.invariant-loop-number

@@ -1,7 +1,6 @@
 use Rattle.std.proofs.Common.{[], ◌∷◌, ◌++◌, Some, ap, sym, ◌∙◌, subst}
 use Rattle.atomic_table.specs.Table.{opening}
-use Rattle.period_lock.specs.Kept.{Kept, first_view}
-use Rattle.period_lock.proofs.Parting.{opening_is_kept}
+use Rattle.period_lock.{specs.Kept.{Kept, first_view}, proofs.Parting.opening_is_kept}
 use Rattle.period_lock.proofs.opening.open.Goals as goal
 
 pub new-requires : goal.new-requires

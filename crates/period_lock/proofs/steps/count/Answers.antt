@@ -1,5 +1,4 @@
-use Rattle.std.proofs.Common.{arith, ◌∙◌, ◌≡◌, ap, sym, length, None}
-use Rattle.std.specs.Prelude.{option_to_list}
+use Rattle.std.{proofs.Common.{arith, ◌∙◌, ◌≡◌, ap, sym, length, None}, specs.Prelude.option_to_list}
 use Rattle.period_lock.proofs.Turning.{count_allowed}
 use Rattle.period_lock.proofs.steps.count.Goals as goal
 

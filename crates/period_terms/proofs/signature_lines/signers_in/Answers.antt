@@ -1,8 +1,6 @@
-use Rattle.std.proofs.Common.{◌≡◌, ◌≤◌, ◌+◌, ◌<◌, ℕ, Bool, true, false, List, take, Some, ap, sym, ◌∙◌, arith}
-use Rattle.std.proofs.Common.{cond}
-use Rattle.std.specs.Prelude.{count_by, slice_get}
-use Rattle.std.proofs.lemmas.Option.{get_or_from_slice_get, slice_get_within}
-use Rattle.std.proofs.lemmas.List.Sums.{count_by_more_yes, count_by_more_no}
+use Rattle.std.proofs.Common.{◌≡◌, ◌≤◌, ◌+◌, ◌<◌, ℕ, Bool, true, false, List, take, Some, ap, sym, ◌∙◌, arith, cond}
+use Rattle.std.proofs.lemmas.{Option.{get_or_from_slice_get, slice_get_within}, List.Sums.count_by_more_yes}
+use Rattle.std.{proofs.lemmas.List.Sums.count_by_more_no, specs.Prelude.{count_by, slice_get}}
 use Rattle.period_terms.specs.States.{has_line}
 use Rattle.period_terms.proofs.signature_lines.signers_in.Goals as goal
 

@@ -1,5 +1,4 @@
-use Rattle.std.proofs.Common.{◌≡◌, ◌≤◌, take}
-use Rattle.std.specs.Prelude.{count_by}
+use Rattle.std.{proofs.Common.{◌≡◌, ◌≤◌, take}, specs.Prelude.count_by}
 use Rattle.period_terms.specs.States.{has_line}
 use Rattle.period_terms.proofs.signature_lines.signers_in.Given as goal
 

@@ -1,6 +1,4 @@
-use Rattle.std.proofs.Common.{◌≡◌, length}
-use Rattle.std.specs.Prelude.{is_some}
-use Rattle.std.specs.List.{list_all}
+use Rattle.std.{proofs.Common.{◌≡◌, length}, specs.{Prelude.is_some, List.list_all}}
 use Rattle.dir_values.specs.Numbers.{number_of}
 use Rattle.relay_entries.specs.Fields.{are_methods}
 use Rattle.relay_entries.proofs.fields.are_methods.Given as goal

@@ -1,8 +1,6 @@
-use Rattle.std.proofs.Common.{◌≡◌, ◌∙◌, ◌++◌, List, ℕ, ap, sym, append_assoc, arith}
-use Rattle.std.proofs.lemmas.Grind.{common_steps}
+use Rattle.std.proofs.{Common.{◌≡◌, ◌∙◌, ◌++◌, List, ℕ, ap, sym, append_assoc, arith}, lemmas.Grind.common_steps}
 use Rattle.std.specs.Prelude.{decimal}
-use Rattle.relay_entries.specs.Texts.{methods_text}
-use Rattle.relay_entries.proofs.Methods.{after_commas, methods_text-cons}
+use Rattle.relay_entries.{specs.Texts.methods_text, proofs.Methods.{after_commas, methods_text-cons}}
 use Rattle.relay_entries.proofs.texts.push_methods.Goals as goal
 
 pub methods-init : goal.methods-init

@@ -1,6 +1,5 @@
 use Rattle.std.proofs.Common.{◌≡◌, ◌++◌, drop, take, vec_len}
-use Rattle.relay_entries.specs.Texts.{methods_text}
-use Rattle.relay_entries.proofs.Methods.{after_commas}
+use Rattle.relay_entries.{specs.Texts.methods_text, proofs.Methods.after_commas}
 use Rattle.relay_entries.proofs.texts.push_methods.Given as goal
 
 abbrev pub invariant-methods : goal.invariant-methods

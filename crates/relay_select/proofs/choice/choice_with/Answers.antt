@@ -1,5 +1,4 @@
-use Rattle.std.proofs.Common.{◌≡◌, ◌∙◌, ap}
-use Rattle.std.specs.List.{filter_map}
+use Rattle.std.{proofs.Common.{◌≡◌, ◌∙◌, ap}, specs.List.filter_map}
 use Rattle.dir_values.specs.declared.digest.Digest1.{Digest1}
 use Rattle.count_terms.specs.Choosing.{chosen, text_order}
 use Rattle.compute_terms.specs.Lines.{policy_with, chosen_micro}

@@ -1,6 +1,5 @@
 use Rattle.std.proofs.Common.{◌≡◌, ◌∙◌, ◌+◌, ◌-◌, ◌/◌, ◌<◌, true, false, get_or, refl, ap, sym, arith}
-use Rattle.dir_values.specs.declared.digest.Fingerprint.{Fingerprint}
-use Rattle.dir_values.specs.Digests.{same_identity, identity_below}
+use Rattle.dir_values.specs.{declared.digest.Fingerprint.Fingerprint, Digests.{same_identity, identity_below}}
 use Rattle.vote_terms.specs.declared.entry.EntryFacts.{EntryFacts}
 use Rattle.relay_select.proofs.Halving.{hit, go_up, go_down, past_end}
 use Rattle.relay_select.proofs.halves.place_of.Goals as goal

@@ -1,9 +1,8 @@
 use Rattle.std.proofs.Common.{◌≡◌, arith, sym, ap, ◌∙◌, true, false, [], ◌∷◌, ◌++◌, drop, get_or, Vec, Global}
-use Rattle.relay_select.specs.Cursors.{is_next, entries_in}
+use Rattle.relay_select.{specs.Cursors.{is_next, entries_in}, proofs.Places.{group_yes, group_no, group_end, taken_yes}}
+use Rattle.relay_select.proofs.{Places.{taken_no, cursors_past}, heads.take.Goals.{then-is_next, else-is_next}}
 use Rattle.compute_terms.specs.declared.belong.Belong.{Belong}
-use Rattle.relay_select.proofs.Places.{group_yes, group_no, group_end, taken_yes, taken_no, cursors_past}
 use Rattle.relay_select.proofs.heads.take.Goals as goal
-use Rattle.relay_select.proofs.heads.take.Goals.{then-is_next, else-is_next}
 
 pub votes-preserved : goal.votes-preserved
 votes-preserved c =

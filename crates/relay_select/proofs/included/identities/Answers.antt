@@ -1,13 +1,10 @@
-use Rattle.std.proofs.Common.{◌≡◌, ◌∙◌, ap, sym, subst, List, Option, map, arith}
-use Rattle.std.specs.Prelude.{option_map}
+use Rattle.std.{proofs.Common.{◌≡◌, ◌∙◌, ap, sym, subst, List, Option, map, arith}, specs.Prelude.option_map}
 use Rattle.std.specs.List.{filter_map}
 use Rattle.relay_entries.specs.declared.said.EdOpinion.{EdOpinion}
-use Rattle.compute_terms.specs.declared.belong.Belong.{Belong}
-use Rattle.compute_terms.specs.declared.identity.EdPart.{EdPart}
-use Rattle.compute_terms.specs.Identities.{included_identity, included_part, eds_of}
-use Rattle.compute_terms.specs.Listings.{Listing, AreMembers, listings_at, listings, identities_in}
-use Rattle.relay_select.specs.Walks.{Walk, Group, group_of, groups}
-use Rattle.relay_select.proofs.Steps.{step, gives_more, identities_back}
+use Rattle.compute_terms.specs.{declared.{belong.Belong.Belong, identity.EdPart.EdPart}, Identities.included_identity}
+use Rattle.compute_terms.specs.{Identities.{included_part, eds_of}, Listings.{Listing, AreMembers, listings_at}}
+use Rattle.compute_terms.specs.Listings.{listings, identities_in}
+use Rattle.relay_select.{specs.Walks.{Walk, Group, group_of, groups}, proofs.Steps.{step, gives_more, identities_back}}
 use Rattle.relay_select.proofs.included.identities.Goals as goal
 
 pub relays-init : goal.relays-init

@@ -1,5 +1,4 @@
-use Rattle.std.proofs.Common.{◌≡◌, ◌++◌, ◌≤◌, map, length, vec_capacity}
-use Rattle.std.specs.List.{filter_map}
+use Rattle.std.{proofs.Common.{◌≡◌, ◌++◌, ◌≤◌, map, length, vec_capacity}, specs.List.filter_map}
 use Rattle.compute_terms.specs.Identities.{included_identity, included_identities}
 use Rattle.relay_select.specs.Walks.{Group, group_of}
 use Rattle.relay_select.proofs.included.identities.Given as goal

@@ -1,5 +1,4 @@
-use Rattle.std.proofs.Common.{◌≡◌, take}
-use Rattle.std.specs.List.{filter_map}
+use Rattle.std.{proofs.Common.{◌≡◌, take}, specs.List.filter_map}
 use Rattle.compute_terms.specs.Lines.{address_with}
 use Rattle.relay_select.proofs.lines.addresses.Given as goal
 

@@ -1,6 +1,5 @@
 use Rattle.std.proofs.Common.{◌≡◌, ◌≤◌, take, length, vec_len, vec_capacity}
-use Rattle.compute_terms.specs.Listings.{listings_at}
-use Rattle.compute_terms.specs.Identities.{eds_of}
+use Rattle.compute_terms.specs.{Listings.listings_at, Identities.eds_of}
 use Rattle.relay_select.proofs.members.eds_at.Given as goal
 
 abbrev pub invariant-members : goal.invariant-members

@@ -1,5 +1,4 @@
-use Rattle.std.proofs.Common.{◌≡◌, drop}
-use Rattle.std.specs.List.{find, filter_map}
+use Rattle.std.{proofs.Common.{◌≡◌, drop}, specs.List.{find, filter_map}}
 use Rattle.compute_terms.specs.Identities.{part_in, includes}
 use Rattle.relay_select.proofs.parts.included_pair.Given as goal
 

@@ -1,5 +1,4 @@
-use Rattle.std.proofs.Common.{◌≡◌, ◌≤◌, take}
-use Rattle.std.specs.Prelude.{count_by}
+use Rattle.std.{proofs.Common.{◌≡◌, ◌≤◌, take}, specs.Prelude.count_by}
 use Rattle.compute_terms.specs.Identities.{names}
 use Rattle.relay_select.proofs.parts.naming.Given as goal
 

@@ -1,6 +1,5 @@
-use Rattle.std.proofs.Common.{◌≡◌, ◌<◌, ◌∙◌, Some, length, get_or, ⊎_elim, arith}
+use Rattle.std.proofs.{Common.{◌≡◌, ◌<◌, ◌∙◌, Some, length, get_or, ⊎_elim, arith}, lemmas.Option.slice_get_cases}
 use Rattle.std.specs.Prelude.{slice_get}
-use Rattle.std.proofs.lemmas.Option.{slice_get_cases}
 use Rattle.vote_terms.specs.Votes.{ReadVote}
 use Rattle.relay_select.proofs.BelongingPlaces.{places_more, places_end, places_are, places_have}
 use Rattle.relay_select.proofs.searching.belonging.Goals as goal

@@ -1,7 +1,5 @@
-use Rattle.std.proofs.Common.{◌≡◌, ◌++◌, drop}
-use Rattle.std.specs.Prelude.{filter}
-use Rattle.relay_select.specs.Walks.{members_from}
-use Rattle.relay_select.specs.Choices.{belongs_at, belonging_places}
+use Rattle.std.{proofs.Common.{◌≡◌, ◌++◌, drop}, specs.Prelude.filter}
+use Rattle.relay_select.specs.{Walks.members_from, Choices.{belongs_at, belonging_places}}
 use Rattle.relay_select.proofs.searching.belonging.Given as goal
 
 abbrev pub invariant-votes : goal.invariant-votes

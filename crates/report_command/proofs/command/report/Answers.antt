@@ -1,7 +1,6 @@
 use Rattle.std.proofs.Common.{◌∙◌, List, ℕ, ap, arith, length, refl}
 use Rattle.key_port.specs.Answers.{rules}
-use Rattle.report_command.proofs.Answering.{of_consensus, of_reading, of_votes}
-use Rattle.report_command.proofs.ConsensusPlace.{consensus_begins}
+use Rattle.report_command.proofs.{Answering.{of_consensus, of_reading, of_votes}, ConsensusPlace.consensus_begins}
 use Rattle.report_command.proofs.command.report.Goals as goal
 
 pub returns-in-Err-clause-answer : goal.returns-in-Err-clause-answer

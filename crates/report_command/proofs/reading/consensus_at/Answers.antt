@@ -1,6 +1,5 @@
 use Rattle.std.proofs.Common.{arith, subst}
-use Rattle.frame_terms.specs.declared.fault.ReadRefusal.{ReadRefusal}
-use Rattle.frame_terms.specs.Refusals.{Fails}
+use Rattle.frame_terms.specs.{declared.fault.ReadRefusal.ReadRefusal, Refusals.Fails}
 use Rattle.consensus_doc.specs.Reading.{consensus_of}
 use Rattle.document_faults.proofs.DocumentFaults.{consensus_within}
 use Rattle.report_command.proofs.reading.consensus_at.Goals as goal

@@ -1,12 +1,8 @@
-use Rattle.std.proofs.Common.{◌∙◌, Err, arith, subst, sym}
-use Rattle.std.proofs.lemmas.List.{take_rest}
-use Rattle.frame_terms.specs.declared.fault.FrameFault.{FrameFault}
-use Rattle.frame_terms.specs.declared.fault.ReadRefusal.{ReadRefusal}
-use Rattle.frame_terms.specs.declared.fault.ReadRefusal.TheVariants.{Frame}
+use Rattle.std.proofs.{Common.{◌∙◌, Err, arith, subst, sym}, lemmas.List.take_rest}
+use Rattle.frame_terms.specs.declared.fault.{FrameFault.FrameFault, ReadRefusal.{ReadRefusal, TheVariants.Frame}}
 use Rattle.frame_terms.specs.Refusals.{Fails}
 use Rattle.vote_doc.specs.Reading.{vote_of}
-use Rattle.report_command.specs.Private.{ReadsVoteAt}
-use Rattle.report_command.proofs.Chains.{fails_there, fault_inside, read_there}
+use Rattle.report_command.{specs.Private.ReadsVoteAt, proofs.Chains.{fails_there, fault_inside, read_there}}
 use Rattle.report_command.proofs.reading.vote_at.Goals as goal
 
 pub returns-in-Ok : goal.returns-in-Ok

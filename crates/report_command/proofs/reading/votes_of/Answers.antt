@@ -1,10 +1,9 @@
 use Rattle.std.proofs.Common.{◌≡◌, ◌-◌, ◌∙◌, suc, ap, subst, sym, Ok, Err, rules, arith}
-use Rattle.frame_terms.specs.declared.fault.ReadRefusal.{ReadRefusal}
-use Rattle.frame_terms.specs.Refusals.{Fails}
+use Rattle.frame_terms.specs.{declared.fault.ReadRefusal.ReadRefusal, Refusals.Fails}
 use Rattle.vote_doc.specs.Reading.{vote_from}
-use Rattle.report_command.specs.Inputs.{ahead_at, too_many, votes_of}
+use Rattle.report_command.{specs.Inputs.{ahead_at, too_many, votes_of}, proofs.Chains.{ahead_fails, done, one_read}}
+use Rattle.report_command.proofs.Chains.{too_many_there, vote_fails}
 use Rattle.report_command.specs.declared.reading.Ahead.TheVariants as ahead
-use Rattle.report_command.proofs.Chains.{ahead_fails, done, one_read, too_many_there, vote_fails}
 use Rattle.report_command.proofs.reading.votes_of.Goals as goal
 
 pub returns-in-Err-clause-votes : goal.returns-in-Err-clause-votes

@@ -1,9 +1,7 @@
 use Rattle.std.proofs.Common.{Err, refl, sym, ◌∙◌}
-use Rattle.http_words.specs.declared.asked.Asked.TheVariants.{PostVote}
-use Rattle.http_words.specs.declared.outcome.Outcome.TheVariants.{Replied}
-use Rattle.serve_answers.proofs.Caused.{status_caused, vote_caused}
-use Rattle.serve_answers.proofs.GoneOn.{vote_goes}
-use Rattle.serve_answers.proofs.Telling.{request_served, served}
+use Rattle.http_words.specs.declared.{asked.Asked.TheVariants.PostVote, outcome.Outcome.TheVariants.Replied}
+use Rattle.serve_answers.proofs.{Caused.{status_caused, vote_caused}, GoneOn.vote_goes, Telling.request_served}
+use Rattle.serve_answers.proofs.Telling.{served}
 use Rattle.serve_answers.proofs.connection.serve_connection.Goals as goal
 
 pub returns-in-Vote-clause-serves : goal.returns-in-Vote-clause-serves

@@ -2,8 +2,7 @@ use Rattle.std.proofs.Common.{◌≡◌, subst, sym}
 use Rattle.key_port.specs.Answers.{Rules, rules}
 use Rattle.consensus_terms.specs.declared.flavour.Flavour.{Flavour}
 use Rattle.http_words.specs.declared.asked.Asked.{Asked}
-use Rattle.serve_answers.specs.Finding.{FindsAsked, ReadsCurrent}
-use Rattle.serve_answers.proofs.Standing.{copied}
+use Rattle.serve_answers.{specs.Finding.{FindsAsked, ReadsCurrent}, proofs.Standing.copied}
 use Rattle.serve_answers.proofs.finding.find_asked.Goals as goal
 
 pub returns-in-Current-clause-finds : goal.returns-in-Current-clause-finds

@@ -1,11 +1,9 @@
 use Rattle.std.proofs.Common.{ℕ, List, subst, sym}
 use Rattle.key_port.specs.Answers.{Rules, rules}
-use Rattle.http_words.specs.declared.asked.Asked.{Asked}
+use Rattle.http_words.specs.declared.{asked.Asked.Asked, outcome.Outcome.TheVariants.Replied}
 use Rattle.lone_vote.specs.Alone.{IsFound, IsVote}
-use Rattle.http_words.specs.declared.outcome.Outcome.TheVariants.{Replied}
-use Rattle.serve_answers.specs.Handling.{Counted, Does}
-use Rattle.serve_answers.proofs.Caused.{vote_caused}
-use Rattle.serve_answers.proofs.GoneOn.{descriptor_goes, vote_goes}
+use Rattle.serve_answers.{specs.Handling.{Counted, Does}, proofs.{Caused.vote_caused, GoneOn.descriptor_goes}}
+use Rattle.serve_answers.proofs.GoneOn.{vote_goes}
 use Rattle.serve_answers.proofs.handling.handle.Goals as goal
 
 pub returns-in_ok-found-in-PostVote-clause-does : goal.returns-in_ok-found-in-PostVote-clause-does

@@ -1,6 +1,5 @@
 use Rattle.std.proofs.Common.{refl, ap, ◌∙◌}
-use Rattle.serve_answers.specs.Places.{at_places}
-use Rattle.serve_answers.proofs.Placing.{one_more_digest_answered}
+use Rattle.serve_answers.{specs.Places.at_places, proofs.Placing.one_more_digest_answered}
 use Rattle.serve_answers.proofs.micros.micros.Goals as goal
 
 pub asked-preserved : goal.asked-preserved

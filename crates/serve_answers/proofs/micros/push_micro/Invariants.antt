@@ -1,6 +1,5 @@
 use Rattle.std.proofs.Common.{◌≡◌, drop}
-use Rattle.serve_answers.specs.Documents.{micro_with}
-use Rattle.serve_answers.specs.Places.{at_places}
+use Rattle.serve_answers.specs.{Documents.micro_with, Places.at_places}
 use Rattle.serve_answers.proofs.micros.push_micro.Given as goal
 
 -- the microdescriptor is looked for at the places from here on

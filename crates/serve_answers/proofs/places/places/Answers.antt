@@ -1,7 +1,6 @@
-use Rattle.std.proofs.Common.{◌<◌, length, rules, sym, ◌∙◌}
-use Rattle.std.proofs.lemmas.List.Elements.{All-push}
-use Rattle.serve_answers.proofs.Placing.{place_more, place_less}
-use Rattle.serve_answers.proofs.places.places.Goals.{then-has_one+in_ok-push, else-has_one}
+use Rattle.std.proofs.{Common.{◌<◌, length, rules, sym, ◌∙◌}, lemmas.List.Elements.All-push}
+use Rattle.serve_answers.proofs.{Placing.{place_more, place_less}, places.places.Goals.then-has_one+in_ok-push}
+use Rattle.serve_answers.proofs.places.places.Goals.{else-has_one}
 use Rattle.serve_answers.proofs.places.places.Goals as goal
 
 pub entries-preserved : goal.entries-preserved

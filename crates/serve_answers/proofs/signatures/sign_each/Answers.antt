@@ -1,11 +1,8 @@
-use Rattle.std.proofs.Common.{◌∙◌, ap}
-use Rattle.std.specs.Int.{from_bool}
+use Rattle.std.{proofs.Common.{◌∙◌, ap}, specs.Int.from_bool}
 use Rattle.key_port.specs.Answers.{Rules, rules}
-use Rattle.period_terms.specs.declared.answer.Answer.TheVariants.{Signature}
-use Rattle.period_terms.specs.declared.event.Event.TheVariants.{SignedIn}
+use Rattle.period_terms.specs.declared.{answer.Answer.TheVariants.Signature, event.Event.TheVariants.SignedIn}
 use Rattle.serve_board.proofs.Going.{goes_makes, goes_on}
-use Rattle.serve_answers.specs.Handling.{is_held}
-use Rattle.serve_answers.proofs.HeldSigns.{few_more, signs_more}
+use Rattle.serve_answers.{specs.Handling.is_held, proofs.HeldSigns.{few_more, signs_more}}
 use Rattle.serve_answers.proofs.signatures.sign_each.Goals as goal
 
 pub signatures-preserved : goal.signatures-preserved

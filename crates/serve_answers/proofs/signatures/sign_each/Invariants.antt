@@ -1,7 +1,6 @@
 use Rattle.std.proofs.Common.{◌≤◌, length}
 use Rattle.key_port.specs.Answers.{rules}
-use Rattle.serve_board.specs.Boards.{IsAt}
-use Rattle.serve_board.specs.Going.{Goes}
+use Rattle.serve_board.specs.{Boards.IsAt, Going.Goes}
 use Rattle.serve_answers.specs.Handling.{SignsHeld}
 use Rattle.serve_answers.proofs.signatures.sign_each.Given as goal
 

@@ -1,11 +1,8 @@
 use Rattle.std.proofs.Common.{◌≡◌, ◌≤◌, ℕ, List, [], ◌∷◌, ◌++◌, length, ap, sym, ◌∙◌, subst, arith}
-use Rattle.std.proofs.lemmas.List.{length_push}
-use Rattle.std.proofs.lemmas.List.Elements.{All-push}
-use Rattle.std.specs.Prelude.{All}
+use Rattle.std.{proofs.lemmas.List.{length_push, Elements.All-push}, specs.Prelude.All}
 use Rattle.period_lock.specs.Turns.{AreDealt, newcomer}
-use Rattle.serve_board.specs.Boards.{Parts, IsPair}
-use Rattle.serve_board.specs.Passes.{DifferInNumber}
-use Rattle.serve_board.proofs.Pairing.{without_last, pair_of, numbers_above, numbers_differ}
+use Rattle.serve_board.{specs.{Boards.{Parts, IsPair}, Passes.DifferInNumber}, proofs.Pairing.{without_last, pair_of}}
+use Rattle.serve_board.proofs.Pairing.{numbers_above, numbers_differ}
 use Rattle.serve_board.proofs.opening.pair.Goals as goal
 
 pub passes-preserved : goal.passes-preserved

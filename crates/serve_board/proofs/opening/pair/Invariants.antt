@@ -1,7 +1,6 @@
 use Rattle.std.proofs.Common.{◌≡◌, ◌≤◌, ◌+◌, All, length, vec_len, vec_capacity}
 use Rattle.period_lock.specs.Turns.{AreDealt}
-use Rattle.serve_board.specs.Boards.{IsPair}
-use Rattle.serve_board.specs.Passes.{DifferInNumber}
+use Rattle.serve_board.specs.{Boards.IsPair, Passes.DifferInNumber}
 use Rattle.serve_board.proofs.opening.pair.Given as goal
 
 abbrev pub invariant-passes : goal.invariant-passes

@@ -1,16 +1,12 @@
-use Rattle.std.proofs.Common.{◌≡◌, ℕ, Option, None, Err, ap, subst, arith}
-use Rattle.std.proofs.lemmas.Result.{err_from_is_err_and}
+use Rattle.std.proofs.{Common.{◌≡◌, ℕ, Option, None, Err, ap, subst, arith}, lemmas.Result.err_from_is_err_and}
 use Rattle.key_port.specs.Answers.{rules as verifier_rules}
 use Rattle.daemon_words.specs.declared.stop.Stop.TheVariants.{Refused}
-use Rattle.serve_command.specs.declared.refusal.ServeRefusal.TheVariants.{Verifier}
+use Rattle.serve_command.{specs.declared.refusal.ServeRefusal.TheVariants.Verifier, proofs.Starts.can_begin}
+use Rattle.serve_command.proofs.Stopping.{no_certificate, no_descriptors, no_period, out_of_order}
 use Rattle.vote_schedule.specs.Moments.{AnswersNext}
 use Rattle.vote_maker.specs.Made.{basis, schedule_in}
-use Rattle.station_commands.specs.Voting.{HasPool}
-use Rattle.station_commands.proofs.Faults.{no_fault}
-use Rattle.station_commands.proofs.Schedules.{schedule_is}
-use Rattle.station_commands.proofs.Voted.{at_moment, has_basis, in_order}
-use Rattle.serve_command.proofs.Starts.{can_begin}
-use Rattle.serve_command.proofs.Stopping.{no_certificate, no_descriptors, no_period, out_of_order}
+use Rattle.station_commands.{specs.Voting.HasPool, proofs.{Faults.no_fault, Schedules.schedule_is, Voted.at_moment}}
+use Rattle.station_commands.proofs.Voted.{has_basis, in_order}
 use Rattle.serve_command.proofs.beginning.beginning_of.Goals as goal
 
 pub returns-in-Err-clause-stops : goal.returns-in-Err-clause-stops

@@ -1,7 +1,5 @@
-use Rattle.std.proofs.Common.{arith, rules, ap, ◌∙◌, List}
-use Rattle.std.proofs.lemmas.Result.{err_from_is_err_and}
-use Rattle.flag_rules.specs.Rules.{ruling_for}
-use Rattle.flag_rules.specs.declared.operator.OperatorRule.{OperatorRule}
+use Rattle.std.proofs.{Common.{arith, rules, ap, ◌∙◌, List}, lemmas.Result.err_from_is_err_and}
+use Rattle.flag_rules.specs.{Rules.ruling_for, declared.operator.OperatorRule.OperatorRule}
 use Rattle.key_port.specs.Answers.{rules as verifier_rules}
 use Rattle.station_commands.proofs.Faults.{no_fault}
 use Rattle.serve_command.proofs.Starts.{is_opened, period_ahead}
@@ -17,6 +15,11 @@ start-requires g c =
           period_ahead (verifier_rules g.V.Verifier.may_accept g.V.Verifier.may_refuse) c.args.now
           c.args.station.now c.args.used c.args.bytes.now c.in_ok-schedule.schedule c.in_ok-schedule.pool begun;
     }
+
+pub returns-in_err-operator-clause-stops : goal.returns-in_err-operator-clause-stops
+returns-in_err-operator-clause-stops g c =
+    let p = err_from_is_err_and c.from_residual-in_err-operator.result c.from_residual-in_err-operator.ensures.1 in
+    rw (p.1, p.2) tt
 
 pub returns-in_err-started-clause-stops : goal.returns-in_err-started-clause-stops
 returns-in_err-started-clause-stops g c =
@@ -49,6 +52,6 @@ returns-clause-opened g c =
     c.args.workers c.args.station.now c.args.used c.in_ok-schedule.schedule c.in_ok-started.started
     c.in_ok-schedule.pool _ c.in_ok-board.board c.in_ok-board.passes.items c.in_ok-schedule.ensures.begins
     c.in_ok-started.ensures.started c.in_ok-started.ensures.start
-    (λ identity. c.new-operator.ensures.ruling identity
+    (λ identity. c.in_ok-operator.ensures identity
     ∙ ap (λ (l : List OperatorRule). ruling_for l identity) (search rules)) c.in_ok-board.ensures.start
     c.in_ok-board.ensures.passes c.in_ok-board.ensures.new c.in_ok-board.ensures.at

@@ -1,9 +1,7 @@
-use Rattle.std.proofs.Common.{◌≡◌, Err, ap}
-use Rattle.std.proofs.lemmas.Result.{err_from_is_err_and}
+use Rattle.std.proofs.{Common.{◌≡◌, Err, ap}, lemmas.Result.err_from_is_err_and}
 use Rattle.key_port.specs.Answers.{rules as verifier_rules}
 use Rattle.daemon_words.specs.declared.stop.Stop.TheVariants.{Refused}
-use Rattle.serve_command.specs.declared.refusal.ServeRefusal.TheVariants.{Verifier}
-use Rattle.serve_command.proofs.Starts.{is_ready}
+use Rattle.serve_command.{specs.declared.refusal.ServeRefusal.TheVariants.Verifier, proofs.Starts.is_ready}
 use Rattle.serve_command.proofs.Stopping.{no_start, no_station}
 use Rattle.serve_command.proofs.ready.prepare.Goals as goal
 

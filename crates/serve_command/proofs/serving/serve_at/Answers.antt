@@ -1,8 +1,6 @@
-use Rattle.std.proofs.Common.{rules, refl, ap, Err}
-use Rattle.std.proofs.lemmas.Result.{err_from_is_err_and}
+use Rattle.std.proofs.{Common.{rules, refl, ap, Err}, lemmas.Result.err_from_is_err_and}
 use Rattle.key_port.specs.Answers.{rules as verifier_rules}
-use Rattle.serve_command.proofs.Answering.{has_served, none_started}
-use Rattle.serve_command.proofs.Asking.{asked_first}
+use Rattle.serve_command.proofs.{Answering.{has_served, none_started}, Asking.asked_first}
 use Rattle.serve_command.proofs.serving.serve_at.Goals as goal
 
 pub returns-in_err-ready-clause-answer : goal.returns-in_err-ready-clause-answer

@@ -1,7 +1,6 @@
 use Rattle.std.proofs.Common.{rules, sym}
 use Rattle.key_port.specs.Answers.{rules as verifier_rules}
-use Rattle.serve_command.proofs.Asking.{asked_clock}
-use Rattle.serve_command.specs.Serving.{ServeAnswers}
+use Rattle.serve_command.{proofs.Asking.asked_clock, specs.Serving.ServeAnswers}
 use Rattle.serve_command.proofs.serving.serve_station.Goals as goal
 
 pub returns-clause-answer : goal.returns-clause-answer

@@ -1,9 +1,6 @@
-use Rattle.std.proofs.Common.{arith}
-use Rattle.std.proofs.lemmas.Bool.{false≢true}
+use Rattle.std.proofs.{Common.arith, lemmas.Bool.false≢true}
 use Rattle.key_port.specs.Answers.{rules}
-use Rattle.serve_rounds.specs.Duties.{IsAdvance}
-use Rattle.serve_rounds.proofs.Adding.{adds_same}
-use Rattle.serve_rounds.proofs.Exchanges.{signed_later, signed_on}
+use Rattle.serve_rounds.{specs.Duties.IsAdvance, proofs.{Adding.adds_same, Exchanges.{signed_later, signed_on}}}
 use Rattle.serve_rounds.proofs.advancing.advance_all.Goals as goal
 
 pub steps-init : goal.steps-init

@@ -1,9 +1,7 @@
 use Rattle.std.proofs.Common.{◌≡◌, ◌≤◌, true}
 use Rattle.key_port.specs.Answers.{rules}
 use Rattle.serve_board.specs.Boards.{IsAt}
-use Rattle.serve_rounds.specs.Duties.{IsAdvance}
-use Rattle.serve_rounds.specs.Exchanges.{HasSigned}
-use Rattle.serve_rounds.specs.Spans.{Adds}
+use Rattle.serve_rounds.specs.{Duties.IsAdvance, Exchanges.HasSigned, Spans.Adds}
 use Rattle.serve_rounds.proofs.advancing.advance_all.Given as goal
 
 abbrev pub invariant-steps : goal.invariant-steps

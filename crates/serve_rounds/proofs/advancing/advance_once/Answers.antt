@@ -1,6 +1,5 @@
 use Rattle.key_port.specs.Answers.{rules}
-use Rattle.serve_rounds.proofs.Adding.{adds_advances}
-use Rattle.serve_rounds.proofs.Exchanges.{signed_here}
+use Rattle.serve_rounds.proofs.{Adding.adds_advances, Exchanges.signed_here}
 use Rattle.serve_rounds.proofs.advancing.advance_once.Goals as goal
 
 pub returns-clause-adds : goal.returns-clause-adds

@@ -1,18 +1,12 @@
-use Rattle.std.proofs.Common.{sym, subst, take}
-use Rattle.std.specs.Prelude.{flat_map}
+use Rattle.std.{proofs.Common.{sym, subst, take}, specs.Prelude.flat_map}
 use Rattle.key_port.specs.Answers as keys
 use Rattle.serve_board.specs.Going.{Goes}
-use Rattle.serve_rounds.specs.Duties.{IsFetched}
-use Rattle.serve_rounds.specs.Exchanges.{IsDue}
-use Rattle.serve_rounds.specs.Keeping.{Keeps}
-use Rattle.serve_rounds.specs.Plans.{peers_among, votes_at}
-use Rattle.serve_rounds.specs.Spans.{Adds, Anywhere}
-use Rattle.serve_rounds.proofs.Adding.{adds_same}
-use Rattle.serve_rounds.proofs.AskedOfPlans.{asks_there, asks_wider, peer_more, stranger_more, votes_by_peer}
-use Rattle.serve_rounds.proofs.Exchanges.{due_later, due_same, due_there}
-use Rattle.serve_rounds.proofs.Kept.{keeps_on, link_is, pass_is}
-use Rattle.serve_rounds.proofs.fetching.fetch_all.Goals as goal
+use Rattle.serve_rounds.specs.{Duties.IsFetched, Exchanges.IsDue, Keeping.Keeps, Plans.{peers_among, votes_at}}
+use Rattle.serve_rounds.{specs.Spans.{Adds, Anywhere}, proofs.{Adding.adds_same, AskedOfPlans.{asks_there, asks_wider}}}
+use Rattle.serve_rounds.proofs.{AskedOfPlans.{peer_more, stranger_more, votes_by_peer}, Exchanges.{due_later, due_same}}
+use Rattle.serve_rounds.proofs.{Exchanges.due_there, Kept.{keeps_on, link_is, pass_is}}
 use Rattle.serve_rounds.proofs.fetching.fetch_all.Goals.{in-Some, in_default}
+use Rattle.serve_rounds.proofs.fetching.fetch_all.Goals as goal
 
 pub peers-preserved : goal.peers-preserved
 peers-preserved g c =

@@ -1,9 +1,6 @@
-use Rattle.std.proofs.Common.{take}
-use Rattle.std.specs.Prelude.{flat_map}
+use Rattle.std.{proofs.Common.take, specs.Prelude.flat_map}
 use Rattle.key_port.specs.Answers.{rules}
-use Rattle.serve_rounds.specs.Duties.{IsFetched}
-use Rattle.serve_rounds.specs.Keeping.{AddsTo, AsksOf, Keeps}
-use Rattle.serve_rounds.specs.Plans.{peers_among, votes_at}
+use Rattle.serve_rounds.specs.{Duties.IsFetched, Keeping.{AddsTo, AsksOf, Keeps}, Plans.{peers_among, votes_at}}
 use Rattle.serve_rounds.specs.Spans.{Anywhere}
 use Rattle.serve_rounds.proofs.fetching.fetch_all.Given as goal
 

@@ -1,13 +1,8 @@
 use Rattle.std.proofs.Common.{take, ◌∷◌, []}
 use Rattle.key_port.specs.Answers as keys
-use Rattle.serve_rounds.specs.Duties.{IsFetched}
-use Rattle.serve_rounds.specs.Exchanges.{IsDue}
-use Rattle.serve_rounds.specs.Plans.{GetVote, votes_at}
-use Rattle.serve_rounds.specs.Spans.{Anywhere}
-use Rattle.serve_rounds.proofs.Adding.{adds_same}
-use Rattle.serve_rounds.proofs.AskedOfPlans.{asks_wider, votes_more}
-use Rattle.serve_rounds.proofs.Exchanges.{due_earlier, due_later}
-use Rattle.serve_rounds.proofs.Kept.{keeps_on}
+use Rattle.serve_rounds.specs.{Duties.IsFetched, Exchanges.IsDue, Plans.{GetVote, votes_at}, Spans.Anywhere}
+use Rattle.serve_rounds.proofs.{Adding.adds_same, AskedOfPlans.{asks_wider, votes_more}, Exchanges.due_earlier}
+use Rattle.serve_rounds.proofs.{Exchanges.due_later, Kept.keeps_on}
 use Rattle.serve_rounds.proofs.fetching.fetch_from.Goals as goal
 
 pub votes-preserved : goal.votes-preserved

@@ -1,9 +1,6 @@
 use Rattle.std.proofs.Common.{take}
 use Rattle.key_port.specs.Answers.{rules}
-use Rattle.serve_rounds.specs.Duties.{IsFetched}
-use Rattle.serve_rounds.specs.Keeping.{AddsTo, AsksOf, Keeps}
-use Rattle.serve_rounds.specs.Plans.{votes_at}
-use Rattle.serve_rounds.specs.Spans.{Anywhere}
+use Rattle.serve_rounds.specs.{Duties.IsFetched, Keeping.{AddsTo, AsksOf, Keeps}, Plans.votes_at, Spans.Anywhere}
 use Rattle.serve_rounds.proofs.fetching.fetch_from.Given as goal
 
 abbrev pub invariant-votes : goal.invariant-votes

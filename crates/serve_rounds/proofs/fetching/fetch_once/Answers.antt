@@ -1,10 +1,8 @@
 use Rattle.std.proofs.Common.{List, None, [], subst, sym}
 use Rattle.key_port.specs.Answers as keys
 use Rattle.vote_schedule.specs.declared.phase.Phase.TheVariants as phases
-use Rattle.serve_rounds.specs.Exchanges.{AsksSome, IsDue}
-use Rattle.serve_rounds.specs.Plans.{Planned, all_votes, plan_of_phase}
-use Rattle.serve_rounds.proofs.AskedOfPlans.{asks_none}
-use Rattle.serve_rounds.proofs.RoundMarks.{fetched_already, if_false}
+use Rattle.serve_rounds.specs.{Exchanges.{AsksSome, IsDue}, Plans.{Planned, all_votes, plan_of_phase}}
+use Rattle.serve_rounds.proofs.{AskedOfPlans.asks_none, RoundMarks.{fetched_already, if_false}}
 use Rattle.serve_rounds.proofs.fetching.fetch_once.Goals as goal
 
 pub returns-then-round-clause-asks : goal.returns-then-round-clause-asks

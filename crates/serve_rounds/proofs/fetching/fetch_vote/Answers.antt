@@ -1,17 +1,11 @@
 use Rattle.std.proofs.Common.{refl, [], ◌∷◌}
 use Rattle.key_port.specs.Answers as keys
-use Rattle.period_terms.specs.declared.answer.Answer.TheVariants.{Vote}
-use Rattle.period_terms.specs.declared.event.Event.TheVariants.{Offered}
+use Rattle.period_terms.specs.declared.{answer.Answer.TheVariants.Vote, event.Event.TheVariants.Offered}
 use Rattle.period_terms.specs.declared.event.Via.TheVariants.{Fetched}
-use Rattle.serve_rounds.specs.Duties.{IsFetched}
-use Rattle.serve_rounds.specs.Spans.{Anywhere}
-use Rattle.serve_rounds.proofs.Adding.{adds_makes, adds_still, entry_kind}
-use Rattle.serve_rounds.proofs.Lasting.{anywhere_lasts}
+use Rattle.serve_rounds.specs.{Duties.IsFetched, Spans.Anywhere, Exchanges.IsDue, Plans.GetVote}
+use Rattle.serve_rounds.proofs.{Adding.{adds_makes, adds_still, entry_kind}, Lasting.anywhere_lasts}
+use Rattle.serve_rounds.proofs.{AskedOfPlans.{asks_none, asks_one}, Exchanges.{lacks, stood_later}}
 use Rattle.serve_board.proofs.Going.{goes_makes}
-use Rattle.serve_rounds.specs.Exchanges.{IsDue}
-use Rattle.serve_rounds.specs.Plans.{GetVote}
-use Rattle.serve_rounds.proofs.AskedOfPlans.{asks_none, asks_one}
-use Rattle.serve_rounds.proofs.Exchanges.{lacks, stood_later}
 use Rattle.serve_rounds.proofs.fetching.fetch_vote.Goals as goal
 
 pub returns-then-is_held-clause-adds : goal.returns-then-is_held-clause-adds

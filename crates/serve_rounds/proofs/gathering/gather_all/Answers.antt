@@ -1,14 +1,10 @@
 use Rattle.std.proofs.Common.{sym, subst}
 use Rattle.key_port.specs.Answers as keys
-use Rattle.serve_rounds.specs.Duties.{IsGathered}
-use Rattle.serve_rounds.specs.Exchanges.{Whatever}
-use Rattle.serve_rounds.specs.Keeping.{Keeps}
-use Rattle.serve_rounds.specs.Plans.{GetSignatures}
-use Rattle.serve_rounds.specs.Spans.{Adds, Anywhere}
-use Rattle.serve_rounds.proofs.AskedOfPlans.{asks_gather, each_by_peer, peer_more, stranger_more}
-use Rattle.serve_rounds.proofs.Kept.{keeps_on, link_is, pass_is}
-use Rattle.serve_rounds.proofs.gathering.gather_all.Goals as goal
+use Rattle.serve_rounds.specs.{Duties.IsGathered, Exchanges.Whatever, Keeping.Keeps, Plans.GetSignatures, Spans.Adds}
+use Rattle.serve_rounds.{specs.Spans.Anywhere, proofs.AskedOfPlans.{asks_gather, each_by_peer, peer_more}}
+use Rattle.serve_rounds.proofs.{AskedOfPlans.stranger_more, Kept.{keeps_on, link_is, pass_is}}
 use Rattle.serve_rounds.proofs.gathering.gather_all.Goals.{in-Some, in_default}
+use Rattle.serve_rounds.proofs.gathering.gather_all.Goals as goal
 
 pub peers-preserved : goal.peers-preserved
 peers-preserved g c =

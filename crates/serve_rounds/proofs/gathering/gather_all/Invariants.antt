@@ -1,10 +1,7 @@
 use Rattle.std.proofs.Common.{take}
 use Rattle.key_port.specs.Answers.{rules}
-use Rattle.serve_rounds.specs.Duties.{IsGathered}
-use Rattle.serve_rounds.specs.Exchanges.{AsksSome, Whatever}
-use Rattle.serve_rounds.specs.Keeping.{AddsTo, Keeps}
-use Rattle.serve_rounds.specs.Plans.{GetSignatures, peers_among, to_each}
-use Rattle.serve_rounds.specs.Spans.{Anywhere}
+use Rattle.serve_rounds.specs.{Duties.IsGathered, Exchanges.{AsksSome, Whatever}, Keeping.{AddsTo, Keeps}}
+use Rattle.serve_rounds.specs.{Plans.{GetSignatures, peers_among, to_each}, Spans.Anywhere}
 use Rattle.serve_rounds.proofs.gathering.gather_all.Given as goal
 
 abbrev pub invariant-peers : goal.invariant-peers

@@ -1,8 +1,5 @@
 use Rattle.key_port.specs.Answers as keys
-use Rattle.serve_rounds.specs.Duties.{IsGathered}
-use Rattle.serve_rounds.specs.Spans.{Anywhere}
-use Rattle.serve_rounds.proofs.Adding.{adds_sees}
-use Rattle.serve_rounds.proofs.Lasting.{anywhere_lasts}
+use Rattle.serve_rounds.{specs.{Duties.IsGathered, Spans.Anywhere}, proofs.{Adding.adds_sees, Lasting.anywhere_lasts}}
 use Rattle.serve_rounds.proofs.gathering.gather_from.Goals as goal
 
 pub returns-clause-adds : goal.returns-clause-adds

@@ -1,9 +1,7 @@
 use Rattle.std.proofs.Common.{List, None, [], subst, sym}
 use Rattle.vote_schedule.specs.declared.phase.Phase.TheVariants as phases
-use Rattle.serve_rounds.specs.Exchanges.{AsksSome, Whatever}
-use Rattle.serve_rounds.specs.Plans.{GetSignatures, Planned, peers_of, plan_of_phase, to_each}
-use Rattle.serve_rounds.proofs.AskedOfPlans.{asks_none}
-use Rattle.serve_rounds.proofs.RoundMarks.{gathered_already, if_false}
+use Rattle.serve_rounds.specs.{Exchanges.{AsksSome, Whatever}, Plans.{GetSignatures, Planned, peers_of, plan_of_phase}}
+use Rattle.serve_rounds.{specs.Plans.to_each, proofs.{AskedOfPlans.asks_none, RoundMarks.{gathered_already, if_false}}}
 use Rattle.serve_rounds.proofs.gathering.gather_once.Goals as goal
 
 pub returns-then-round-clause-asks : goal.returns-then-round-clause-asks

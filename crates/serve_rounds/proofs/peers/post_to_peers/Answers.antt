@@ -1,8 +1,7 @@
 use Rattle.std.proofs.Common.{ap, arith}
-use Rattle.serve_rounds.specs.Exchanges.{Whatever}
-use Rattle.serve_rounds.proofs.AskedOfPlans.{asks_bring, each_by_peer, peer_more, stranger_more}
+use Rattle.serve_rounds.{specs.Exchanges.Whatever, proofs.AskedOfPlans.{asks_bring, each_by_peer, peer_more}}
+use Rattle.serve_rounds.proofs.{AskedOfPlans.stranger_more, peers.post_to_peers.Goals.{in-Some, in_default}}
 use Rattle.serve_rounds.proofs.peers.post_to_peers.Goals as goal
-use Rattle.serve_rounds.proofs.peers.post_to_peers.Goals.{in-Some, in_default}
 
 pub peers-preserved : goal.peers-preserved
 peers-preserved g c =

@@ -1,7 +1,7 @@
 use Rattle.std.proofs.Common.{◌≡◌, ◌≤◌, take}
 use Rattle.dir_http.specs.Responses.{post_text}
-use Rattle.serve_rounds.specs.Exchanges.{AsksSome, Whatever}
-use Rattle.serve_rounds.specs.Plans.{Asking, limit_of, peers_among, request_of, to_each}
+use Rattle.serve_rounds.specs.{Exchanges.{AsksSome, Whatever}, Plans.{Asking, limit_of, peers_among, request_of}}
+use Rattle.serve_rounds.specs.Plans.{to_each}
 use Rattle.serve_rounds.proofs.peers.post_to_peers.Given as goal
 
 abbrev pub invariant-peers : goal.invariant-peers

@@ -2,12 +2,9 @@ use Rattle.std.proofs.Common.{◌≡◌, ◌∙◌, ℕ, Bool, List, [], Option,
 use Rattle.std.specs.Prelude.{codes}
 use Rattle.key_port.specs.Answers as keys
 use Rattle.dir_http.specs.Responses.{post_text}
-use Rattle.serve_rounds.specs.Exchanges.{AsksSome, IsDue}
-use Rattle.serve_rounds.specs.Plans.{Planned, PostSignatures, must_bring, peers_of, plan_of_signatures, to_each}
-use Rattle.serve_rounds.specs.Plans.{with_signatures}
-use Rattle.serve_rounds.proofs.AskedOfPlans.{asks_none, each_due}
-use Rattle.serve_rounds.proofs.RoundMarks.{brought_already, if_true}
-use Rattle.serve_rounds.proofs.Exchanges.{held_there}
+use Rattle.serve_rounds.specs.{Exchanges.{AsksSome, IsDue}, Plans.{Planned, PostSignatures, must_bring, peers_of}}
+use Rattle.serve_rounds.{specs.Plans.{plan_of_signatures, to_each, with_signatures}, proofs.AskedOfPlans.asks_none}
+use Rattle.serve_rounds.proofs.{AskedOfPlans.each_due, RoundMarks.{brought_already, if_true}, Exchanges.held_there}
 use Rattle.serve_rounds.proofs.signatures.post_once.Goals as goal
 
 pub returns-then-not-must_bring-clause-brings : goal.returns-then-not-must_bring-clause-brings

@@ -1,7 +1,6 @@
 use Rattle.key_port.specs.Answers.{rules}
 use Rattle.serve_board.specs.Boards.{IsAt, Parts}
-use Rattle.serve_rounds.specs.Duties.{IsGathered}
-use Rattle.serve_rounds.specs.Spans.{Adds, Anywhere}
+use Rattle.serve_rounds.specs.{Duties.IsGathered, Spans.{Adds, Anywhere}}
 use Rattle.serve_rounds.proofs.signatures.sign_in_all.Given as goal
 
 abbrev pub invariant-signatures : goal.invariant-signatures

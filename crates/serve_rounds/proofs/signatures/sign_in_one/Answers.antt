@@ -1,10 +1,7 @@
 use Rattle.std.proofs.Common.{refl}
 use Rattle.key_port.specs.Answers as keys
-use Rattle.period_terms.specs.declared.answer.Answer.TheVariants.{Signature}
-use Rattle.period_terms.specs.declared.event.Event.TheVariants.{SignedIn}
-use Rattle.serve_rounds.specs.Duties.{IsGathered}
-use Rattle.serve_rounds.specs.Spans.{Anywhere}
-use Rattle.serve_rounds.proofs.Adding.{adds_makes, entry_kind}
+use Rattle.period_terms.specs.declared.{answer.Answer.TheVariants.Signature, event.Event.TheVariants.SignedIn}
+use Rattle.serve_rounds.{specs.{Duties.IsGathered, Spans.Anywhere}, proofs.Adding.{adds_makes, entry_kind}}
 use Rattle.serve_rounds.proofs.Lasting.{anywhere_lasts}
 use Rattle.serve_rounds.proofs.signatures.sign_in_one.Goals as goal
 

@@ -1,14 +1,11 @@
 use Rattle.std.proofs.Common.{refl}
 use Rattle.key_port.specs.Answers as keys
-use Rattle.period_terms.specs.declared.answer.Answer.TheVariants.{Vote}
-use Rattle.period_terms.specs.declared.event.Event.TheVariants.{Offered}
+use Rattle.period_terms.specs.declared.{answer.Answer.TheVariants.Vote, event.Event.TheVariants.Offered}
 use Rattle.period_terms.specs.declared.event.Via.TheVariants.{Own}
 use Rattle.serve_board.proofs.Going.{goes_makes, goes_on}
-use Rattle.serve_rounds.specs.Duties.{IsOwn}
-use Rattle.serve_rounds.specs.Spans.{Since}
-use Rattle.serve_rounds.proofs.Adding.{adds_makes, adds_still, entry_kind, none_same}
-use Rattle.serve_rounds.proofs.Lasting.{own_lasts, period_later, since_lasts, vote_earlier, vote_later}
-use Rattle.serve_rounds.proofs.Exchanges.{own_text_later}
+use Rattle.serve_rounds.{specs.{Duties.IsOwn, Spans.Since}, proofs.Adding.{adds_makes, adds_still, entry_kind}}
+use Rattle.serve_rounds.proofs.{Adding.none_same, Lasting.{own_lasts, period_later, since_lasts, vote_earlier}}
+use Rattle.serve_rounds.proofs.{Lasting.vote_later, Exchanges.own_text_later}
 use Rattle.serve_rounds.proofs.voting.offer_own.Goals as goal
 
 pub returns-in_default-clause-adds : goal.returns-in_default-clause-adds

@@ -1,11 +1,9 @@
-use Rattle.std.proofs.Common.{List, [], None, Some, ap, refl, subst, sym}
+use Rattle.std.{proofs.Common.{List, [], None, Some, ap, refl, subst, sym}, specs.Prelude.codes}
 use Rattle.key_port.specs.Answers as keys
 use Rattle.vote_schedule.specs.declared.phase.Phase.TheVariants as phases
-use Rattle.std.specs.Prelude.{codes}
 use Rattle.dir_http.specs.Responses.{post_text}
-use Rattle.serve_rounds.specs.Exchanges.{AsksSome, IsDue, Whatever}
-use Rattle.serve_rounds.specs.Plans.{Planned, PostVote, peers_of, plan_of_phase, to_each, with_vote}
-use Rattle.serve_rounds.proofs.AskedOfPlans.{asks_none, each_due}
+use Rattle.serve_rounds.specs.{Exchanges.{AsksSome, IsDue, Whatever}, Plans.{Planned, PostVote, peers_of}}
+use Rattle.serve_rounds.{specs.Plans.{plan_of_phase, to_each, with_vote}, proofs.AskedOfPlans.{asks_none, each_due}}
 use Rattle.serve_rounds.proofs.RoundMarks.{if_false, voted_already}
 use Rattle.serve_rounds.proofs.voting.vote_once.Goals as goal
 

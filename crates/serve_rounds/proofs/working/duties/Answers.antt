@@ -1,11 +1,8 @@
 use Rattle.std.proofs.Common.{ℕ, rules, subst, sym}
 use Rattle.key_port.specs.Answers as keys
 use Rattle.serve_board.proofs.Going.{goes_on}
-use Rattle.serve_rounds.specs.Duties.{IsRound, Duties}
-use Rattle.serve_rounds.specs.Exchanges.{AsksPeers}
-use Rattle.serve_rounds.proofs.Exchanges.{asks_earlier, signed_later}
-use Rattle.serve_rounds.proofs.Adding.{adds_advanced, adds_same}
-use Rattle.serve_rounds.proofs.Kept.{both_there}
+use Rattle.serve_rounds.{specs.{Duties.{IsRound, Duties}, Exchanges.AsksPeers}, proofs.Exchanges.asks_earlier}
+use Rattle.serve_rounds.proofs.{Exchanges.signed_later, Adding.{adds_advanced, adds_same}, Kept.both_there}
 use Rattle.serve_rounds.proofs.working.duties.Goals as goal
 
 pub returns-clause-duties : goal.returns-clause-duties

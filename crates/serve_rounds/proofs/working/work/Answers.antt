@@ -1,15 +1,11 @@
 use Rattle.std.proofs.Common.{◌∙◌, ℕ, sym, subst}
 use Rattle.key_port.specs.Answers as keys
 use Rattle.serve_board.proofs.Going.{goes_on, goes_sees}
-use Rattle.serve_rounds.specs.Duties.{IsRound}
-use Rattle.serve_rounds.specs.declared.round.Round.{Round}
-use Rattle.serve_rounds.specs.Exchanges.{BringsSignatures, DoesPhase}
-use Rattle.serve_rounds.specs.Plans.{phase_in}
-use Rattle.serve_rounds.specs.Spans.{Since}
-use Rattle.serve_rounds.specs.OwnVotes.{IsPeriodOf}
-use Rattle.serve_rounds.proofs.Adding.{adds_same, adds_sees, adds_still, here_since, none_same, since_here}
-use Rattle.serve_rounds.proofs.Lasting.{period_earlier, period_later, period_seen, round_lasts}
-use Rattle.serve_rounds.proofs.Exchanges.{brings_earlier, brings_later, does_earlier}
+use Rattle.serve_rounds.specs.{Duties.IsRound, declared.round.Round.Round, Exchanges.{BringsSignatures, DoesPhase}}
+use Rattle.serve_rounds.{specs.{Plans.phase_in, Spans.Since, OwnVotes.IsPeriodOf}, proofs.Adding.{adds_same, adds_sees}}
+use Rattle.serve_rounds.proofs.{Adding.{adds_still, here_since, none_same, since_here}, Lasting.period_earlier}
+use Rattle.serve_rounds.proofs.{Lasting.{period_later, period_seen, round_lasts}, Exchanges.brings_earlier}
+use Rattle.serve_rounds.proofs.Exchanges.{brings_later, does_earlier}
 use Rattle.serve_rounds.proofs.working.work.Goals as goal
 
 pub returns-clause-adds : goal.returns-clause-adds

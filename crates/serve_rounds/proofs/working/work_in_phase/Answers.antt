@@ -1,13 +1,9 @@
 use Rattle.std.proofs.Common.{None, inl, inr, subst, sym, ◌∙◌}
 use Rattle.key_port.specs.Answers as keys
-use Rattle.serve_rounds.specs.Duties.{IsFetched, IsGathered, IsOwn, IsRound}
+use Rattle.serve_rounds.specs.{Duties.{IsFetched, IsGathered, IsOwn, IsRound}, Exchanges.{DoesPhase, IsDue}}
+use Rattle.serve_rounds.{specs.{Plans.peers_of, Spans.{Anywhere, Since}}, proofs.Adding.adds_part}
+use Rattle.serve_rounds.proofs.{Lasting.{round_lasts, since_lasts}, AskedOfPlans.gathers_due}
 use Rattle.vote_schedule.specs.declared.phase.Phase.{Phase}
-use Rattle.serve_rounds.specs.Exchanges.{DoesPhase, IsDue}
-use Rattle.serve_rounds.specs.Plans.{peers_of}
-use Rattle.serve_rounds.specs.Spans.{Anywhere, Since}
-use Rattle.serve_rounds.proofs.Adding.{adds_part}
-use Rattle.serve_rounds.proofs.Lasting.{round_lasts, since_lasts}
-use Rattle.serve_rounds.proofs.AskedOfPlans.{gathers_due}
 use Rattle.serve_rounds.proofs.working.work_in_phase.Goals as goal
 
 pub returns-in-Voting-clause-adds : goal.returns-in-Voting-clause-adds

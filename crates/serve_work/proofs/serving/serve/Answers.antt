@@ -1,6 +1,5 @@
 use Rattle.std.proofs.Common.{refl, subst, ⊎_elim}
-use Rattle.serve_work.specs.Serving.{GatesRan}
-use Rattle.serve_work.proofs.Gates.{serves_failed}
+use Rattle.serve_work.{specs.Serving.GatesRan, proofs.Gates.serves_failed}
 use Rattle.serve_work.proofs.serving.serve.Goals as goal
 
 pub returns : goal.returns

@@ -1,5 +1,4 @@
-use Rattle.std.proofs.Common.{◌≡◌, length, ap, ◌∙◌, arith, length-append}
-use Rattle.std.proofs.lemmas.List.Elements.{All-same, All-push}
+use Rattle.std.proofs.{Common.{◌≡◌, length, ap, ◌∙◌, arith, length-append}, lemmas.List.Elements.{All-same, All-push}}
 use Rattle.gate_workers.specs.declared.worker.End.TheVariants.{Working}
 use Rattle.serve_work.proofs.Hiring.{all_hired, shift}
 use Rattle.serve_work.proofs.staff.hire.Goals as goal

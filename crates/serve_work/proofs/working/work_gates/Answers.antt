@@ -1,17 +1,11 @@
 use denote.Param.Send.{sendable}
 use Rattle.key_port.specs.Answers as keys
-use Rattle.std.proofs.Common.{rules, arith, ◌≡◌, ◌≤◌, length, map, sym, ap, ◌∙◌}
-use Rattle.std.proofs.Crossing.{crosses}
-use Rattle.std.specs.Prelude.{slice_index_or}
-use Rattle.std.proofs.lemmas.List.{length-map}
-use Rattle.std.proofs.lemmas.List.Elements.{All-same}
+use Rattle.std.proofs.{Common.{rules, arith, ◌≡◌, ◌≤◌, length, map, sym, ap, ◌∙◌}, Crossing.crosses}
+use Rattle.std.{proofs.lemmas.List.{length-map, Elements.All-same}, specs.Prelude.slice_index_or}
 use Rattle.gate_workers.specs.declared.worker.End.TheVariants.{Working}
-use Rattle.serve_work.proofs.Gates.{gates_ran}
+use Rattle.serve_work.proofs.{Gates.gates_ran, Additions.works_same, Places.{as_many, by_place, comes_same, done_by}}
+use Rattle.serve_work.proofs.{Places.{may_attend, passes_at, workers_at}, Sent.attendant_send, Written.take_whole}
 use Rattle.serve_work.specs.Workers.{HasWorked}
-use Rattle.serve_work.proofs.Additions.{works_same}
-use Rattle.serve_work.proofs.Places.{as_many, by_place, comes_same, done_by, may_attend, passes_at, workers_at}
-use Rattle.serve_work.proofs.Sent.{attendant_send}
-use Rattle.serve_work.proofs.Written.{take_whole}
 use Rattle.serve_work.proofs.working.work_gates.Goals as goal
 
 pub run-ran-requires-send-K : goal.run-ran-requires-send-K

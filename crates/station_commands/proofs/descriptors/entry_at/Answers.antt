@@ -1,8 +1,7 @@
 use Rattle.std.proofs.Common.{◌∙◌, subst, sym}
 use Rattle.key_port.specs.Answers.{rules as verifier_rules}
 use Rattle.daemon_words.specs.declared.stop.Stop.TheVariants as stop
-use Rattle.station_commands.specs.Reads.{StopsAt}
-use Rattle.station_commands.specs.declared.refusal.PoolRefusal.{PoolRefusal}
+use Rattle.station_commands.specs.{Reads.StopsAt, declared.refusal.PoolRefusal.PoolRefusal}
 use Rattle.station_commands.proofs.Reading.{holds_there, stops_checking, told_of_verifier}
 use Rattle.station_commands.proofs.descriptors.entry_at.Goals as goal
 

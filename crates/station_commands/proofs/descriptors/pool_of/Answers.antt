@@ -1,10 +1,8 @@
-use Rattle.std.proofs.Common.{◌≡◌, ◌∙◌, true, false, refl, rules, arith}
-use Rattle.std.proofs.lemmas.Result.{err_from_is_err_and}
+use Rattle.std.proofs.{Common.{◌≡◌, ◌∙◌, true, false, refl, rules, arith}, lemmas.Result.err_from_is_err_and}
 use Rattle.blank_lines.specs.Ends.{ends_at}
 use Rattle.key_port.specs.Answers.{rules as verifier_rules}
-use Rattle.station_commands.proofs.Faults.{no_fault}
-use Rattle.station_commands.proofs.Standing.{none_kept, one_kept, or_is}
-use Rattle.station_commands.proofs.Stopping.{fills, makes_pool, stops_there}
+use Rattle.station_commands.proofs.{Faults.no_fault, Standing.{none_kept, one_kept, or_is}, Stopping.fills}
+use Rattle.station_commands.proofs.Stopping.{makes_pool, stops_there}
 use Rattle.station_commands.proofs.descriptors.pool_of.Goals as goal
 
 pub descriptors-init : goal.descriptors-init

@@ -2,8 +2,7 @@ use Rattle.std.proofs.Common.{Err, sym, subst, ◌∙◌}
 use Rattle.frame_terms.specs.declared.fault.ReadRefusal.{ReadRefusal}
 use Rattle.descriptor_doc.proofs.ReadUnder.{own_read}
 use Rattle.descriptor_parts.proofs.OfText.{some_bytes}
-use Rattle.station_commands.proofs.Reading.{fails_there, fits_there, read_there, rest_is}
-use Rattle.station_commands.specs.Reads.{ReadsAt}
+use Rattle.station_commands.{proofs.Reading.{fails_there, fits_there, read_there, rest_is}, specs.Reads.ReadsAt}
 use Rattle.station_commands.proofs.descriptors.read_at.Goals as goal
 
 pub from_place-requires : goal.from_place-requires

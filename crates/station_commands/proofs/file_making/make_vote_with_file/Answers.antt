@@ -1,9 +1,7 @@
 use Rattle.std.proofs.Common.{ℕ, Ok, Err, sym, subst}
 use Rattle.key_port.specs.Answers.{rules as verifier_rules}
-use Rattle.daemon_words.specs.Stops.{Answered}
-use Rattle.daemon_words.specs.declared.stop.Stop.{Stop}
-use Rattle.station_commands.specs.Voting.{VoteAnswers}
-use Rattle.station_commands.specs.WithFile.{IsBeforeSigner, IsOfStation}
+use Rattle.daemon_words.specs.{Stops.Answered, declared.stop.Stop.Stop}
+use Rattle.station_commands.specs.{Voting.VoteAnswers, WithFile.{IsBeforeSigner, IsOfStation}}
 use Rattle.station_commands.specs.declared.file_refusal.FileVoteRefusal.{FileVoteRefusal}
 use Rattle.station_commands.proofs.FileAnswers.{before_vote, file_at, no_file, no_file_at, no_station, no_vote}
 use Rattle.station_commands.proofs.FileAnswers.{station_at, unsigned_vote, voted}
@@ -37,7 +35,7 @@ vote_from-requires g c =
     let read = station_at c.args.newest front.file front.used c.args.bytes.now c.deref-2.result.now
     (Ok (c.in-Ok-station_behind.station, c.in-Ok-station_behind.used)) c.deref-2.ensures
     c.in-Ok-station_behind.ensures in
-    record { short = c.requires; within = read.1; apart = read.2 }
+    record { short = c.requires; within = read.1 }
 
 pub returns-in-Ok-vote_from-clause-answer : goal.returns-in-Ok-vote_from-clause-answer
 returns-in-Ok-vote_from-clause-answer g c =

@@ -1,8 +1,7 @@
 use Rattle.std.proofs.Common.{ℕ, sym, subst}
 use Rattle.key_port.specs.Answers.{rules as verifier_rules}
 use Rattle.daemon_words.specs.Stops.{Answered}
-use Rattle.station_commands.specs.Voting.{VoteAnswers}
-use Rattle.station_commands.proofs.Stopping.{answered, faulty}
+use Rattle.station_commands.{specs.Voting.VoteAnswers, proofs.Stopping.{answered, faulty}}
 use Rattle.station_commands.proofs.making.make_vote.Goals as goal
 
 pub returns-in-Err-clause-answer : goal.returns-in-Err-clause-answer
@@ -13,12 +12,7 @@ returns-in-Err-clause-answer g c =
     c.in-Err.ensures)
 
 pub vote_from-requires : goal.vote_from-requires
-vote_from-requires g c = record {
-  short = c.requires;
-  within = c.in-Ok.ensures.1;
-  apart = (c.relays_are_named_once.ensures c.args.newest c.args.bytes.now c.in-Ok.station c.in-Ok.used
-      c.in-Ok.ensures.0).rules;
-}
+vote_from-requires g c = record { short = c.requires; within = c.in-Ok.ensures.1 }
 
 pub returns-clause-answer : goal.returns-clause-answer
 returns-clause-answer g c =

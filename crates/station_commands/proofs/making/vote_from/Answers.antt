@@ -1,13 +1,10 @@
 use Rattle.std.proofs.Common.{ℕ, Option, None, subst, arith}
 use Rattle.key_port.specs.Answers.{rules as verifier_rules}
 use Rattle.vote_maker.specs.Made.{basis, schedule_in}
-use Rattle.vote_schedule.specs.Moments.{AnswersNext}
-use Rattle.vote_schedule.specs.Schedules.{IsSchedule, Schedule}
-use Rattle.station_commands.specs.Voting.{HasPool}
-use Rattle.station_commands.proofs.Faults.{no_fault}
-use Rattle.station_commands.proofs.Schedules.{schedule_is}
-use Rattle.station_commands.proofs.Stopping.{no_descriptors, no_period, out_of_order}
-use Rattle.station_commands.proofs.Voted.{at_moment, has_basis, in_order, unasked_of, unsigned_of, voted_at, within_moments}
+use Rattle.vote_schedule.specs.{Moments.AnswersNext, Schedules.{IsSchedule, Schedule}}
+use Rattle.station_commands.{specs.Voting.HasPool, proofs.{Faults.no_fault, Schedules.schedule_is}}
+use Rattle.station_commands.proofs.{Stopping.{no_descriptors, no_period, out_of_order}, Voted.{at_moment, has_basis}}
+use Rattle.station_commands.proofs.Voted.{in_order, unasked_of, unsigned_of, voted_at, within_moments}
 use Rattle.station_commands.proofs.making.vote_from.Goals as goal
 
 pub returns-in-Err-clause-answer : goal.returns-in-Err-clause-answer
@@ -50,7 +47,6 @@ vote_of-requires g c =
       schedule = subst (λ (s : Schedule). IsSchedule s) same c.period_of.ensures.schedule;
       moments = within_moments schedule (schedule_in given) c.args.now c.in-Some.valid_after same
           c.in-Some.ensures.next;
-      apart = c.requires.apart;
     }
 
 pub returns-clause-answer : goal.returns-clause-answer

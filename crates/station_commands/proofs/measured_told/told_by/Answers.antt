@@ -1,7 +1,6 @@
 use Rattle.std.proofs.Common.{rules, ◌≡◌, List, sym, subst}
 use Rattle.station_input.specs.declared.frame_said.MeasuredRelay.{MeasuredRelay}
-use Rattle.station_commands.specs.MeasuredTold.{AreToldBy, told_relays}
-use Rattle.station_commands.proofs.Telling.{all_tell}
+use Rattle.station_commands.{specs.MeasuredTold.{AreToldBy, told_relays}, proofs.Telling.all_tell}
 use Rattle.station_commands.proofs.measured_told.told_by.Goals as goal
 
 pub returns-clause-told : goal.returns-clause-told

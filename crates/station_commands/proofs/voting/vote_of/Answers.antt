@@ -9,7 +9,7 @@ pub returns-in-Ok-clause-gives : goal.returns-in-Ok-clause-gives
 returns-in-Ok-clause-gives g c =
     let station = c.args.station.now in
     let its = basis station c.args.pool.now.descriptors c.args.valid_after c.args.now in
-    let list = c.new-list.result in
+    let list = c.in_ok-list.list in
     let others = c.new-hook.result.rules.now in
     let alike : RuleAlike station.rules list = search rules in
     let is : others ≡ list = search rules in
@@ -20,7 +20,7 @@ pub returns-clause-gives : goal.returns-clause-gives
 returns-clause-gives g c =
     let station = c.args.station.now in
     let its = basis station c.args.pool.now.descriptors c.args.valid_after c.args.now in
-    let list = c.new-list.result in
+    let list = c.in_ok-list.list in
     let others = c.new-hook.result.rules.now in
     let alike : RuleAlike station.rules list = search rules in
     let is : others ≡ list = search rules in

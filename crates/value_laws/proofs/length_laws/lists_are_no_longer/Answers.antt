@@ -1,5 +1,4 @@
-use Rattle.value_laws.proofs.ParamLengths.{params_no_longer}
-use Rattle.value_laws.proofs.ProtocolLengths.{protocols_no_longer}
+use Rattle.value_laws.proofs.{ParamLengths.params_no_longer, ProtocolLengths.protocols_no_longer}
 use Rattle.value_laws.proofs.VersionLengths.{versions_no_longer}
 use Rattle.value_laws.proofs.length_laws.lists_are_no_longer.Goals as goal
 

@@ -1,5 +1,4 @@
-use Rattle.std.proofs.Common.{◌≡◌, length, map, nat_eq}
-use Rattle.std.specs.List.{list_any}
+use Rattle.std.{proofs.Common.{◌≡◌, length, map, nat_eq}, specs.List.list_any}
 use Rattle.dir_values.specs.Numbers.{number_in}
 use Rattle.relay_entries.specs.Fields.{methods_in}
 use Rattle.vote_entries.proofs.entry.lists.Given as goal

@@ -1,8 +1,5 @@
-use Rattle.std.proofs.Common.{◌≡◌, drop, map}
-use Rattle.std.specs.List.{find}
-use Rattle.std.specs.Option.{option_map}
-use Rattle.vote_terms.specs.Entries.{gives}
-use Rattle.vote_terms.specs.declared.entry.MicroFacts.{MicroFacts}
+use Rattle.std.{proofs.Common.{◌≡◌, drop, map}, specs.{List.find, Option.option_map}}
+use Rattle.vote_terms.specs.{Entries.gives, declared.entry.MicroFacts.MicroFacts}
 use Rattle.vote_entries.specs.Entries.{micro_in}
 use Rattle.vote_entries.proofs.entry.micro_for.Given as goal
 

@@ -1,9 +1,5 @@
-use Rattle.std.proofs.Common.{◌∙◌, drop, ap, arith, sym}
-use Rattle.std.proofs.lemmas.Grind.{common_steps}
-use Rattle.std.specs.List.{fold}
-use Rattle.vote_feed.specs.declared.blanks.Blank.{Blank}
-use Rattle.vote_feed.specs.Blanks.{blank_with}
-use Rattle.vote_feed.proofs.BlankLines.{blank_behind, others}
+use Rattle.std.{proofs.{Common.{◌∙◌, drop, ap, arith, sym}, lemmas.Grind.common_steps}, specs.List.fold}
+use Rattle.vote_feed.{specs.{declared.blanks.Blank.Blank, Blanks.blank_with}, proofs.BlankLines.{blank_behind, others}}
 use Rattle.vote_feed.proofs.blanks.blank_after.Goals as goal
 
 pub returns-in-Other : goal.returns-in-Other

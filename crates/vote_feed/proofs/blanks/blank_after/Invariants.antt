@@ -1,5 +1,4 @@
-use Rattle.std.proofs.Common.{◌≡◌, drop}
-use Rattle.std.specs.List.{fold}
+use Rattle.std.{proofs.Common.{◌≡◌, drop}, specs.List.fold}
 use Rattle.vote_feed.specs.Blanks.{blank_with}
 use Rattle.vote_feed.proofs.blanks.blank_after.Given as goal
 

@@ -1,6 +1,5 @@
 use Rattle.std.proofs.Common.{◌∙◌}
-use Rattle.vote_feed.specs.Lending.{taken_of}
-use Rattle.vote_feed.proofs.Votes.{vote_kept}
+use Rattle.vote_feed.{specs.Lending.taken_of, proofs.Votes.vote_kept}
 use Rattle.vote_feed.proofs.finishing.whole_vote.Goals as goal
 
 pub returns-in-Ok : goal.returns-in-Ok

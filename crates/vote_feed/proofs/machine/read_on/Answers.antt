@@ -1,6 +1,5 @@
 use Rattle.std.proofs.Common.{◌∙◌, ℕ, Option, Ok, ap}
-use Rattle.vote_feed.proofs.Going.{late_on}
-use Rattle.vote_feed.proofs.Votes.{all_comes, fault_comes, item_taken, whole_comes}
+use Rattle.vote_feed.proofs.{Going.late_on, Votes.{all_comes, fault_comes, item_taken, whole_comes}}
 use Rattle.vote_feed.proofs.machine.read_on.Goals as goal
 
 pub items-preserved : goal.items-preserved

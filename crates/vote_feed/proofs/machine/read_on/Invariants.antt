@@ -1,6 +1,5 @@
 use Rattle.std.proofs.Common.{◌-◌, length}
-use Rattle.vote_feed.specs.Lending.{VoteSoFar}
-use Rattle.vote_feed.proofs.Going.{Late}
+use Rattle.vote_feed.{specs.Lending.VoteSoFar, proofs.Going.Late}
 use Rattle.vote_feed.proofs.machine.read_on.Given as goal
 
 abbrev pub invariant-items : goal.invariant-items

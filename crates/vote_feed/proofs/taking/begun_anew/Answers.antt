@@ -1,6 +1,5 @@
 use Rattle.std.proofs.Common.{◌∙◌, Ok, ap}
-use Rattle.frame_reader.specs.declared.arriving.Reached.{Reached}
-use Rattle.vote_feed.proofs.Votes.{never_whole}
+use Rattle.vote_feed.{specs.declared.machine.Reached.Reached, proofs.Votes.never_whole}
 use Rattle.vote_feed.proofs.taking.begun_anew.Goals as goal
 
 pub read_on-requires-clause-so_far : goal.read_on-requires-clause-so_far

@@ -1,6 +1,5 @@
 use Rattle.std.proofs.Common.{◌∙◌, Ok, ap, arith}
-use Rattle.frame_reader.specs.declared.arriving.Reached.{Reached}
-use Rattle.vote_feed.proofs.Votes.{all_in, more_later, more_so_far, whole_in}
+use Rattle.vote_feed.{specs.declared.machine.Reached.Reached, proofs.Votes.{all_in, more_later, more_so_far, whole_in}}
 use Rattle.vote_feed.proofs.taking.take_in.Goals as goal
 
 pub read_on-requires-clause-so_far : goal.read_on-requires-clause-so_far

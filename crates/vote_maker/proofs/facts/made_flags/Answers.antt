@@ -1,5 +1,4 @@
-use Rattle.std.proofs.Common.{◌∙◌}
-use Rattle.std.proofs.lemmas.Result.{IfOk-weaker}
+use Rattle.std.proofs.{Common.◌∙◌, lemmas.Result.IfOk-weaker}
 use Rattle.vote_maker.proofs.MadeFlags.{every_name}
 use Rattle.vote_maker.proofs.facts.made_flags.Goals as goal
 

@@ -1,14 +1,10 @@
 use Rattle.std.proofs.Common.{◌≡◌, ◌++◌, List, length, subst, sym, ap, ap₂, ◌∙◌}
-use Rattle.flag_rules.specs.Flags.{flags_of}
-use Rattle.flag_rules.specs.Relays.{ruled_relays}
-use Rattle.flag_rules.specs.Rules.{AreAllowed}
-use Rattle.flag_rules.specs.declared.relay.RelayFacts.{RelayFacts}
-use Rattle.flag_rules.specs.declared.ruling.Ruling.{Ruling}
+use Rattle.flag_rules.specs.{Flags.flags_of, Relays.ruled_relays, Rules.AreAllowed}
+use Rattle.flag_rules.specs.declared.{relay.RelayFacts.RelayFacts, ruling.Ruling.Ruling}
 use Rattle.station_input.specs.declared.frame_said.MeasuredRelay.{MeasuredRelay}
 use Rattle.vote_terms.specs.declared.entry.EntryFacts.{EntryFacts}
-use Rattle.vote_maker.specs.Private.{MeasureAlike, entries_text}
-use Rattle.vote_maker.specs.Relays.{known_relays}
-use Rattle.vote_maker.proofs.RuledEntries.{as_many, entries_ruled, known_alike}
+use Rattle.vote_maker.{specs.{Private.{MeasureAlike, entries_text}, Relays.known_relays}, proofs.RuledEntries.as_many}
+use Rattle.vote_maker.proofs.RuledEntries.{entries_ruled, known_alike}
 use Rattle.vote_maker.proofs.facts.push_ruled.Goals as goal
 
 pub push_entries_of-requires-clause-many : goal.push_entries_of-requires-clause-many

@@ -1,7 +1,6 @@
 use Rattle.std.proofs.Common.{◌≡◌, ◌++◌, ℕ, List, ap, ap₂, ◌∙◌}
 use Rattle.vote_terms.specs.declared.facts.VoteFacts.{VoteFacts}
-use Rattle.vote_maker.specs.Made.{basis, made}
-use Rattle.vote_maker.specs.Private.{back_text, front_text, said_around}
+use Rattle.vote_maker.specs.{Made.{basis, made}, Private.{back_text, front_text, said_around}}
 use Rattle.vote_maker.proofs.EntryTexts.{whole_part}
 use Rattle.vote_maker.proofs.facts.signed_part.Goals as goal
 

@@ -1,8 +1,7 @@
 use Rattle.std.proofs.Common.{rules, ◌≡◌, ◌<◌, ◌++◌, drop, length, arith}
 use Rattle.flag_rules.specs.Relays.{ruled_relays}
 use Rattle.vote_pool.specs.Kept.{signer_of}
-use Rattle.vote_maker.specs.Listings.{judged_relays}
-use Rattle.vote_maker.specs.Private.{entries_from, entry_if, is_listed, keys_after}
+use Rattle.vote_maker.specs.{Listings.judged_relays, Private.{entries_from, entry_if, is_listed, keys_after}}
 use Rattle.vote_maker.proofs.EntriesInTurn.{one_more_entry_listed}
 use Rattle.vote_maker.proofs.listing.entries_between.Goals as goal
 

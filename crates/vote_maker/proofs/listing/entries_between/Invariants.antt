@@ -1,7 +1,6 @@
 use Rattle.std.proofs.Common.{◌≡◌, ◌≤◌, ◌++◌, drop}
 use Rattle.flag_rules.specs.Relays.{ruled_relays}
-use Rattle.vote_maker.specs.Listings.{judged_relays}
-use Rattle.vote_maker.specs.Private.{entries_from}
+use Rattle.vote_maker.specs.{Listings.judged_relays, Private.entries_from}
 use Rattle.vote_maker.proofs.listing.entries_between.Given as goal
 
 -- the entries so far, and those of the relays that are left, are those of all from the start on

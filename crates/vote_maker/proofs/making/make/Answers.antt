@@ -1,8 +1,6 @@
-use Rattle.std.proofs.Common.{rules, ◌≡◌, Ok}
-use Rattle.std.proofs.lemmas.Result.{IfErr-weaker}
+use Rattle.std.proofs.{Common.{rules, ◌≡◌, Ok}, lemmas.Result.IfErr-weaker}
 use Rattle.key_port.specs.Answers.{rules as verifier_rules}
-use Rattle.vote_maker.specs.Made.{basis}
-use Rattle.vote_maker.proofs.MadeTexts.{asked_by, certified_by, made_by, refuses_by}
+use Rattle.vote_maker.{specs.Made.basis, proofs.MadeTexts.{asked_by, certified_by, made_by, refuses_by}}
 use Rattle.vote_maker.proofs.SignedTexts.{ok_both}
 use Rattle.vote_maker.proofs.making.make.Goals as goal
 

@@ -2,10 +2,8 @@ use Rattle.std.proofs.Common.{◌≡◌, ◌≤◌, ◌++◌, List, length, arit
 use Rattle.std.specs.FinSet as set
 use Rattle.flag_rules.specs.Relays.{ruled_relays}
 use Rattle.vote_terms.specs.declared.entry.EntryFacts.{EntryFacts}
-use Rattle.vote_maker.specs.Listings.{judged_relays}
-use Rattle.vote_maker.specs.Private.{entries_from, entries_text}
-use Rattle.vote_maker.proofs.EntriesInTurn.{none_left, one_more_part}
-use Rattle.vote_maker.proofs.Judged.{judged_ascend, judged_few}
+use Rattle.vote_maker.specs.{Listings.judged_relays, Private.{entries_from, entries_text}}
+use Rattle.vote_maker.proofs.{EntriesInTurn.{none_left, one_more_part}, Judged.{judged_ascend, judged_few}}
 use Rattle.vote_maker.proofs.Listed.{listed_in_turn}
 use Rattle.vote_maker.proofs.parts.push_entries_of.Goals as goal
 

@@ -1,8 +1,7 @@
 use Rattle.std.proofs.Common.{◌≡◌, ◌≤◌, ◌-◌, ◌++◌, drop, length}
 use Rattle.std.specs.FinSet as set
 use Rattle.flag_rules.specs.Relays.{ruled_relays}
-use Rattle.vote_maker.specs.Listings.{judged_relays}
-use Rattle.vote_maker.specs.Private.{entries_from, entries_text, front_text}
+use Rattle.vote_maker.specs.{Listings.judged_relays, Private.{entries_from, entries_text, front_text}}
 use Rattle.vote_maker.proofs.parts.push_entries_of.Given as goal
 
 -- the text so far, and that of the entries of the relays that are left, is that of all; around them the vote says the same

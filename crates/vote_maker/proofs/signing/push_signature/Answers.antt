@@ -1,5 +1,4 @@
-use Rattle.std.proofs.Common.{rules, ◌≡◌, ℕ, List, [], ◌∷◌, ◌++◌, ap, ◌∙◌}
-use Rattle.std.specs.Prelude.{codes}
+use Rattle.std.{proofs.Common.{rules, ◌≡◌, ℕ, List, [], ◌∷◌, ◌++◌, ap, ◌∙◌}, specs.Prelude.codes}
 use Rattle.sha1.specs.Sha1.{sha1}
 use Rattle.dir_bytes.specs.FieldTexts.{hex_text}
 use Rattle.item_terms.specs.Bytes.{line_feed, space}

@@ -1,9 +1,7 @@
-use Rattle.std.proofs.Common.{rules, ◌≡◌, ◌++◌, ap, ◌∙◌}
-use Rattle.std.proofs.lemmas.Result.{IfErr-weaker, IfOk-weaker}
+use Rattle.std.proofs.{Common.{rules, ◌≡◌, ◌++◌, ap, ◌∙◌}, lemmas.Result.{IfErr-weaker, IfOk-weaker}}
 use Rattle.sha1.specs.Sha1.{sha1}
 use Rattle.vote_text.specs.Made.{signature_rest}
-use Rattle.vote_maker.specs.Made.{signature_by}
-use Rattle.vote_maker.proofs.SignedTexts.{signed_by, too_long_by}
+use Rattle.vote_maker.{specs.Made.signature_by, proofs.SignedTexts.{signed_by, too_long_by}}
 use Rattle.vote_maker.proofs.signing.signed_vote.Goals as goal
 
 pub returns-in_ok-push_signature-in-Signed-clause-signed :

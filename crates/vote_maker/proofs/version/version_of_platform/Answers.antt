@@ -1,6 +1,4 @@
-use Rattle.std.proofs.Common.{rules, ◌≡◌, ℕ, true, false, List, Some, ap, ◌∙◌}
-use Rattle.std.specs.Prelude.{codes}
-use Rattle.std.specs.Str.{bytes_eq}
+use Rattle.std.{proofs.Common.{rules, ◌≡◌, ℕ, true, false, List, Some, ap, ◌∙◌}, specs.{Prelude.codes, Str.bytes_eq}}
 use Rattle.dir_values.specs.Taking.{argument_of}
 use Rattle.vote_maker.proofs.Versions.{no_word, one_word, tor_named, other_named}
 use Rattle.vote_maker.proofs.version.version_of_platform.Goals as goal

@@ -1,5 +1,4 @@
-use Rattle.std.proofs.Common.{rules, sym, arith}
-use Rattle.std.proofs.lemmas.List.Sorted.{IsPartitionPoint-from_clause}
+use Rattle.std.proofs.{Common.{rules, sym, arith}, lemmas.List.Sorted.IsPartitionPoint-from_clause}
 use Rattle.dir_values.specs.Digests.{identity_below}
 use Rattle.descriptor_doc.specs.declared.descriptor.Descriptor.{Descriptor}
 use Rattle.vote_pool.proofs.Placing.{front_is, parted}

@@ -1,8 +1,7 @@
 use Rattle.std.proofs.Common.{◌≡◌, List, length, ap, ap₂, sym, subst, ◌∙◌, arith}
-use Rattle.vote_rehearsal.specs.Authorities.{voters, with_voter}
-use Rattle.vote_rehearsal.specs.Private.{MakeRoster}
-use Rattle.vote_rehearsal.specs.declared.authority.Authority.{Authority}
-use Rattle.vote_rehearsal.proofs.Rosters.{make_roster, more_voters, voters_length}
+use Rattle.vote_rehearsal.specs.{Authorities.{voters, with_voter}, Private.MakeRoster}
+use Rattle.vote_rehearsal.{specs.declared.authority.Authority.Authority, proofs.Rosters.{make_roster, more_voters}}
+use Rattle.vote_rehearsal.proofs.Rosters.{voters_length}
 use Rattle.vote_rehearsal.proofs.authority.voters.Goals as goal
 
 pub authorities-preserved : goal.authorities-preserved

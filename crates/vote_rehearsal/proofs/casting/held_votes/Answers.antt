@@ -1,8 +1,6 @@
 use Rattle.std.proofs.Common.{List, ap, ◌∙◌, arith}
 use Rattle.dir_values.specs.declared.digest.Fingerprint.{Fingerprint}
-use Rattle.vote_rehearsal.specs.Authorities.{members_of}
-use Rattle.vote_rehearsal.specs.Casting.{cast_by}
-use Rattle.vote_rehearsal.proofs.CastVotes.{more_held}
+use Rattle.vote_rehearsal.{specs.{Authorities.members_of, Casting.cast_by}, proofs.CastVotes.more_held}
 use Rattle.vote_rehearsal.proofs.casting.held_votes.Goals as goal
 
 pub voters-preserved : goal.voters-preserved

@@ -1,7 +1,6 @@
 use Rattle.std.proofs.Common.{◌≡◌, ◌≤◌, take, length}
 use Rattle.vote_terms.specs.Held.{held}
-use Rattle.vote_rehearsal.specs.Authorities.{members_of}
-use Rattle.vote_rehearsal.specs.Casting.{cast_votes}
+use Rattle.vote_rehearsal.specs.{Authorities.members_of, Casting.cast_votes}
 use Rattle.vote_rehearsal.proofs.casting.held_votes.Given as goal
 
 abbrev pub invariant-voters : goal.invariant-voters

@@ -1,6 +1,5 @@
 use Rattle.std.proofs.Common.{Some, ap, refl, ◌∙◌}
-use Rattle.vote_rehearsal.specs.Votes.{period}
-use Rattle.vote_rehearsal.proofs.Casts.{acceptable_is, refused_is}
+use Rattle.vote_rehearsal.{specs.Votes.period, proofs.Casts.{acceptable_is, refused_is}}
 use Rattle.vote_rehearsal.proofs.casting.if_acceptable.Goals as goal
 
 pub returns-in-Ok : goal.returns-in-Ok

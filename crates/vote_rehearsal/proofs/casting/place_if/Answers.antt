@@ -1,6 +1,5 @@
 use Rattle.std.proofs.Common.{length, ap, arith}
-use Rattle.vote_doc.specs.Holdings.{Holding}
-use Rattle.vote_doc.proofs.Placing.{placed_adds_at_most_one}
+use Rattle.vote_doc.{specs.Holdings.Holding, proofs.Placing.placed_adds_at_most_one}
 use Rattle.vote_rehearsal.proofs.casting.place_if.Goals as goal
 
 pub returns-in-Some-clause-few : goal.returns-in-Some-clause-few

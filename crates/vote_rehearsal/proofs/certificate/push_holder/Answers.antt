@@ -1,10 +1,8 @@
-use Rattle.std.proofs.Common.{◌++◌, [], List, ℕ}
-use Rattle.std.specs.Prelude.{codes}
+use Rattle.std.{proofs.Common.{◌++◌, [], List, ℕ}, specs.Prelude.codes}
 use Rattle.dir_bytes.specs.FieldTexts.{hex_text}
 use Rattle.dirdoc_grammar.specs.Writing.{item_text}
 use Rattle.frame_terms.specs.declared.keyword.Keyword.TheVariants as the
-use Rattle.frame_values.specs.Items.{bare}
-use Rattle.frame_values.proofs.ItemsTexts.{link, last}
+use Rattle.frame_values.{specs.Items.bare, proofs.ItemsTexts.{link, last}}
 use Rattle.vote_rehearsal.proofs.certificate.push_holder.Goals as goal
 
 pub returns : goal.returns

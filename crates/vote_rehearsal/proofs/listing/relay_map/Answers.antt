@@ -1,11 +1,7 @@
-use Rattle.std.proofs.Common.{◌≡◌, ◌+◌, ap, ◌∙◌}
-use Rattle.std.specs.Prelude.{if◌then◌else◌}
+use Rattle.std.{proofs.Common.{◌≡◌, ◌+◌, ap, ◌∙◌}, specs.Prelude.if◌then◌else◌}
 use Rattle.std.specs.FinSet as set
-use Rattle.vote_rehearsal.specs.Draws.{number_after}
-use Rattle.vote_rehearsal.specs.Private.{Known, is_new}
-use Rattle.vote_rehearsal.specs.Relays.{relay_at, relay_of, with_relay}
-use Rattle.vote_rehearsal.specs.declared.relay.Relay.{Relay}
-use Rattle.vote_rehearsal.proofs.Drawing.{first_start, next_start}
+use Rattle.vote_rehearsal.specs.{Draws.number_after, Private.{Known, is_new}, Relays.{relay_at, relay_of, with_relay}}
+use Rattle.vote_rehearsal.{specs.declared.relay.Relay.Relay, proofs.Drawing.{first_start, next_start}}
 use Rattle.vote_rehearsal.proofs.KnownRelays.{more_identities, more_keys, more_listed, no_identities, no_keys}
 use Rattle.vote_rehearsal.proofs.listing.relay_map.Goals as goal
 

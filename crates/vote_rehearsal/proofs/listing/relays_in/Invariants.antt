@@ -1,5 +1,4 @@
-use Rattle.std.proofs.Common.{◌≡◌, ◌++◌}
-use Rattle.std.specs.BTreeMap.{values}
+use Rattle.std.{proofs.Common.{◌≡◌, ◌++◌}, specs.BTreeMap.values}
 use Rattle.vote_rehearsal.proofs.listing.relays_in.Given as goal
 
 abbrev pub invariant-relays : goal.invariant-relays

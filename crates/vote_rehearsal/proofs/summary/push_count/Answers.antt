@@ -1,8 +1,6 @@
-use Rattle.std.proofs.Common.{rules, ◌≡◌, ℕ, List, [], ◌∷◌, ◌++◌, ap, ◌∙◌}
-use Rattle.std.specs.Prelude.{decimal}
+use Rattle.std.{proofs.Common.{rules, ◌≡◌, ℕ, List, [], ◌∷◌, ◌++◌, ap, ◌∙◌}, specs.Prelude.decimal}
 use Rattle.item_terms.specs.Bytes.{line_feed, space}
-use Rattle.vote_rehearsal.specs.Summaries.{count_line}
-use Rattle.vote_rehearsal.proofs.SignedTexts.{line_in_turn}
+use Rattle.vote_rehearsal.{specs.Summaries.count_line, proofs.SignedTexts.line_in_turn}
 use Rattle.vote_rehearsal.proofs.summary.push_count.Goals as goal
 
 pub returns : goal.returns

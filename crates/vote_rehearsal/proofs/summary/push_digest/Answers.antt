@@ -1,8 +1,7 @@
 use Rattle.std.proofs.Common.{rules, ◌≡◌, ℕ, List, [], ◌∷◌, ◌++◌, ap, ◌∙◌}
 use Rattle.dir_bytes.specs.FieldTexts.{hex_text}
 use Rattle.item_terms.specs.Bytes.{line_feed, space}
-use Rattle.vote_rehearsal.specs.Summaries.{digest_line}
-use Rattle.vote_rehearsal.proofs.SignedTexts.{line_in_turn}
+use Rattle.vote_rehearsal.{specs.Summaries.digest_line, proofs.SignedTexts.line_in_turn}
 use Rattle.vote_rehearsal.proofs.summary.push_digest.Goals as goal
 
 pub returns : goal.returns

@@ -1,7 +1,5 @@
-use Rattle.std.proofs.Common.{◌++◌}
-use Rattle.std.specs.Prelude.{codes}
-use Rattle.vote_rehearsal.specs.Summaries.{count_line, digest_line}
-use Rattle.vote_rehearsal.proofs.SummaryTexts.{joined}
+use Rattle.std.{proofs.Common.◌++◌, specs.Prelude.codes}
+use Rattle.vote_rehearsal.{specs.Summaries.{count_line, digest_line}, proofs.SummaryTexts.joined}
 use Rattle.vote_rehearsal.proofs.summary.push_found.Goals as goal
 
 pub returns : goal.returns

@@ -1,7 +1,5 @@
 use Rattle.std.proofs.Common.{rules, ◌≡◌, List, length, ap₂, ◌∙◌}
-use Rattle.vote_rehearsal.specs.Casting.{held_votes}
-use Rattle.vote_rehearsal.specs.declared.authority.Authority.{Authority}
-use Rattle.vote_rehearsal.specs.declared.relay.Relay.{Relay}
+use Rattle.vote_rehearsal.specs.{Casting.held_votes, declared.{authority.Authority.Authority, relay.Relay.Relay}}
 use Rattle.vote_rehearsal.proofs.SummaryTexts.{whole}
 use Rattle.vote_rehearsal.proofs.summary.rehearse.Goals as goal
 

@@ -1,11 +1,9 @@
-use Rattle.std.proofs.Common.{rules, ◌≡◌, ℕ, List, [], ◌∷◌, ◌++◌, ap, ◌∙◌}
-use Rattle.std.specs.Prelude.{codes}
+use Rattle.std.{proofs.Common.{rules, ◌≡◌, ℕ, List, [], ◌∷◌, ◌++◌, ap, ◌∙◌}, specs.Prelude.codes}
 use Rattle.sha1.specs.Sha1.{sha1}
 use Rattle.dir_bytes.specs.FieldTexts.{hex_text}
 use Rattle.item_terms.specs.Bytes.{line_feed, space}
 use Rattle.dirdoc_grammar.specs.Bodies.{object_text}
-use Rattle.vote_rehearsal.specs.Certificates.{certificate_of}
-use Rattle.vote_rehearsal.proofs.SignedTexts.{in_turn}
+use Rattle.vote_rehearsal.{specs.Certificates.certificate_of, proofs.SignedTexts.in_turn}
 use Rattle.vote_rehearsal.proofs.voting.push_signature.Goals as goal
 
 pub returns : goal.returns

@@ -1,5 +1,4 @@
-use Rattle.std.proofs.Common.{List, ℕ, ap₂, ◌∙◌}
-use Rattle.std.proofs.lemmas.Result.{IfOk-weaker}
+use Rattle.std.proofs.{Common.{List, ℕ, ap₂, ◌∙◌}, lemmas.Result.IfOk-weaker}
 use Rattle.vote_terms.specs.declared.facts.VoteFacts.{VoteFacts}
 use Rattle.vote_text.specs.Made.{made_signed}
 use Rattle.vote_rehearsal.specs.Votes.{signed_text}

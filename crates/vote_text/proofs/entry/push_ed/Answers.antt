@@ -1,6 +1,5 @@
 use Rattle.std.proofs.Common.{rules, ◌≡◌, ◌∙◌, ◌++◌, ℕ, List, Option, Some, ap, append-nil, sym}
-use Rattle.std.proofs.lemmas.Result.{on_ok_weaker}
-use Rattle.std.specs.Prelude.{codes}
+use Rattle.std.{proofs.lemmas.Result.on_ok_weaker, specs.Prelude.codes}
 use Rattle.dir_bytes.specs.FieldTexts.{base64_text}
 use Rattle.dirdoc_grammar.specs.Writing.{item_text, items_text}
 use Rattle.frame_terms.specs.declared.keyword.Keyword.TheVariants.{Id}

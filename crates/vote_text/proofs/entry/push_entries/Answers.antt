@@ -1,8 +1,6 @@
-use Rattle.std.proofs.Common.{◌∙◌, ◌++◌, List, ℕ, ap, append_assoc, arith, drop, ◌+◌}
-use Rattle.std.proofs.lemmas.Grind.{common_steps}
+use Rattle.std.proofs.{Common.{◌∙◌, ◌++◌, List, ℕ, ap, append_assoc, arith, drop, ◌+◌}, lemmas.Grind.common_steps}
 use Rattle.dirdoc_grammar.specs.Writing.{items_text}
-use Rattle.vote_text.specs.Entries.{entries_items, entry_items}
-use Rattle.vote_text.proofs.EntryTexts.{entries_text-drop}
+use Rattle.vote_text.{specs.Entries.{entries_items, entry_items}, proofs.EntryTexts.entries_text-drop}
 use Rattle.vote_text.proofs.entry.push_entries.Goals as goal
 
 pub entries-preserved : goal.entries-preserved

@@ -1,13 +1,11 @@
-use Rattle.std.proofs.Common.{rules, ◌≡◌, ◌∙◌, ◌++◌, List, ℕ, ap, take}
-use Rattle.std.specs.Prelude.{option_map}
+use Rattle.std.{proofs.Common.{rules, ◌≡◌, ◌∙◌, ◌++◌, List, ℕ, ap, take}, specs.Prelude.option_map}
 use Rattle.dir_bytes.proofs.Appending.{front_stays}
 use Rattle.dirdoc_grammar.specs.Writing.{NewItem, items_text}
 use Rattle.frame_terms.specs.declared.keyword.Keyword.TheVariants as the
 use Rattle.frame_values.specs.Items.{item_if}
 use Rattle.relay_entries.specs.Texts.{bandwidths_text, ed_text}
 use Rattle.vote_terms.specs.declared.entry.MicroFacts.{MicroFacts}
-use Rattle.vote_text.specs.Entries.{flag_items, items_each, micro_items, relay_items}
-use Rattle.vote_text.proofs.Appends.{and_then}
+use Rattle.vote_text.{specs.Entries.{flag_items, items_each, micro_items, relay_items}, proofs.Appends.and_then}
 use Rattle.vote_text.proofs.entry.push_entry.Goals as goal
 
 -- what the first seven calls append, one after the other

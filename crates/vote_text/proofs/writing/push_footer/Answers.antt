@@ -1,10 +1,8 @@
-use Rattle.std.proofs.Common.{◌≡◌, ◌∙◌, ◌++◌, [], List, ℕ, ap}
-use Rattle.std.specs.Prelude.{codes}
+use Rattle.std.{proofs.Common.{◌≡◌, ◌∙◌, ◌++◌, [], List, ℕ, ap}, specs.Prelude.codes}
 use Rattle.dirdoc_grammar.specs.Writing.{item_text}
 use Rattle.frame_terms.specs.declared.keyword.Keyword.TheVariants as the
-use Rattle.frame_values.specs.Items.{bare, with_object}
+use Rattle.frame_values.{specs.Items.{bare, with_object}, proofs.ItemsTexts.{link, last}}
 use Rattle.vote_text.specs.Texts.{signer_text}
-use Rattle.frame_values.proofs.ItemsTexts.{link, last}
 use Rattle.vote_text.proofs.writing.push_footer.Goals as goal
 
 pub returns-clause-ok : goal.returns-clause-ok

@@ -1,9 +1,8 @@
 use Rattle.std.proofs.Common.{rules, ◌≡◌, ◌++◌, List, take}
 use Rattle.dir_bytes.proofs.Appending.{front_stays}
 use Rattle.dirdoc_grammar.specs.Writing.{NewItem, items_text}
-use Rattle.vote_text.specs.Lists.{param_items, protocol_items, version_items}
-use Rattle.vote_text.specs.Texts.{flag_items, kind_items, time_items}
-use Rattle.vote_text.proofs.Appends.{and_then}
+use Rattle.vote_text.specs.{Lists.{param_items, protocol_items, version_items}, Texts.{flag_items, kind_items}}
+use Rattle.vote_text.{specs.Texts.time_items, proofs.Appends.and_then}
 use Rattle.vote_text.proofs.writing.push_preamble.Goals as goal
 
 pub returns-in_err-push_params-clause-err : goal.returns-in_err-push_params-clause-err

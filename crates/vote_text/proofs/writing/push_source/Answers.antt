@@ -1,5 +1,4 @@
-use Rattle.std.proofs.Common.{◌∙◌, ◌++◌, ◌∷◌, [], ℕ, List, ap, append_assoc}
-use Rattle.std.proofs.lemmas.Result.{on_err_weaker}
+use Rattle.std.proofs.{Common.{◌∙◌, ◌++◌, ◌∷◌, [], ℕ, List, ap, append_assoc}, lemmas.Result.on_err_weaker}
 use Rattle.dir_bytes.proofs.Appending.{front_stays}
 use Rattle.item_terms.specs.Bytes.{space}
 use Rattle.vote_text.specs.Texts.{names_text}

@@ -1,9 +1,8 @@
 use Rattle.std.proofs.Common.{◌++◌, [], List, ℕ}
 use Rattle.dirdoc_grammar.specs.Writing.{item_text}
 use Rattle.frame_terms.specs.declared.keyword.Keyword.TheVariants as the
-use Rattle.frame_values.specs.Items.{bare, moment_item}
+use Rattle.frame_values.{specs.Items.{bare, moment_item}, proofs.ItemsTexts.{link, last}}
 use Rattle.vote_text.specs.Texts.{delays_text}
-use Rattle.frame_values.proofs.ItemsTexts.{link, last}
 use Rattle.vote_text.proofs.writing.push_times.Goals as goal
 
 pub returns-clause-ok : goal.returns-clause-ok

@@ -1,7 +1,5 @@
-use Rattle.std.proofs.Common.{◌≡◌, length}
-use Rattle.std.specs.Option.{option_or}
-use Rattle.bandwidth_file.specs.Lending.{item_seen}
-use Rattle.bandwidth_file.specs.Lines.{last_of, last_value, node_id, bw, vote}
+use Rattle.std.{proofs.Common.{◌≡◌, length}, specs.Option.option_or}
+use Rattle.bandwidth_file.specs.{Lending.item_seen, Lines.{last_of, last_value, node_id, bw, vote}}
 use Rattle.bandwidth_file.proofs.items.Items.of.Given as goal
 
 abbrev pub invariant-items : goal.invariant-items

@@ -1,8 +1,6 @@
 use Rattle.std.proofs.Common.{rules, ◌≡◌, true, false, refl}
 use Rattle.item_terms.specs.Words.{is_blank_line}
-use Rattle.bandwidth_file.specs.Files.{rows_of}
-use Rattle.bandwidth_file.specs.Lending.{line_seen}
-use Rattle.bandwidth_file.proofs.Steps.{holds_one, keeps_there}
+use Rattle.bandwidth_file.{specs.{Files.rows_of, Lending.line_seen}, proofs.Steps.{holds_one, keeps_there}}
 use Rattle.bandwidth_file.proofs.reading.Reading.take.Goals as goal
 
 pub returns-then-not-is_blank_line-clause-ok : goal.returns-then-not-is_blank_line-clause-ok

@@ -1,5 +1,4 @@
-use Rattle.std.proofs.Common.{◌≡◌, ◌++◌}
-use Rattle.std.specs.List.{flat_map}
+use Rattle.std.{proofs.Common.{◌≡◌, ◌++◌}, specs.List.flat_map}
 use Rattle.bandwidth_file.specs.Texts.{relay_text}
 use Rattle.bandwidth_file.proofs.relays.Relays.push.Given as goal
 

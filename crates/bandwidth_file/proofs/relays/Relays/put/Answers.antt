@@ -1,7 +1,6 @@
 use Rattle.std.proofs.Common.{◌≡◌, ℕ, ◌+◌, List, length, subst}
 use Rattle.dir_values.specs.declared.digest.Fingerprint.{Fingerprint}
-use Rattle.bandwidth_file.specs.Lending.{HasRow, one_if_new}
-use Rattle.bandwidth_file.proofs.Rows.{put_is, put_len}
+use Rattle.bandwidth_file.{specs.Lending.{HasRow, one_if_new}, proofs.Rows.{put_is, put_len}}
 use Rattle.bandwidth_file.proofs.relays.Relays.put.Goals as goal
 
 pub returns-clause-value : goal.returns-clause-value

@@ -1,6 +1,5 @@
 use Rattle.std.proofs.Common.{◌-◌, refl}
-use Rattle.compute_command.specs.Votes.{most_votes}
-use Rattle.compute_command.proofs.Arrivals.{is_full, no_room}
+use Rattle.compute_command.{specs.Votes.most_votes, proofs.Arrivals.{is_full, no_room}}
 use Rattle.compute_command.proofs.arriving.Arriving.behind.Goals as goal
 
 pub returns-clause-begins : goal.returns-clause-begins

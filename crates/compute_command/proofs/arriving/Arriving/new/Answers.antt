@@ -1,9 +1,6 @@
-use Rattle.std.proofs.Common.{◌≡◌, Result, Ok, Err, refl}
-use Rattle.std.specs.Prelude.{IfOk}
-use Rattle.compute_command.specs.declared.arriving.Arriving.{Arriving}
-use Rattle.compute_command.specs.declared.checking.Checking.{Checking}
-use Rattle.compute_command.specs.Arriving.{BeginsBehind, NoneArrived}
-use Rattle.compute_command.specs.Checked.{NoneCame}
+use Rattle.std.{proofs.Common.{◌≡◌, Result, Ok, Err, refl}, specs.Prelude.IfOk}
+use Rattle.compute_command.specs.declared.{arriving.Arriving.Arriving, checking.Checking.Checking}
+use Rattle.compute_command.specs.{Arriving.{BeginsBehind, NoneArrived}, Checked.NoneCame}
 use Rattle.compute_command.proofs.Arrivals.{none_arrived}
 use Rattle.compute_command.proofs.arriving.Arriving.new.Goals as goal
 

@@ -1,8 +1,6 @@
-use Rattle.std.proofs.Common.{◌∙◌, ◌-◌, ◌++◌, ℕ, List, [], length, take, drop, append-nil, refl, subst}
-use Rattle.std.proofs.Common.{sym}
+use Rattle.std.proofs.Common.{◌∙◌, ◌-◌, ◌++◌, ℕ, List, [], length, take, drop, append-nil, refl, subst, sym}
 use Rattle.key_port.specs.Answers.{rules}
-use Rattle.compute_command.specs.Arriving.{IsArriving}
-use Rattle.compute_command.proofs.Asking.{asked_all, asked_first, asked_on}
+use Rattle.compute_command.{specs.Arriving.IsArriving, proofs.Asking.{asked_all, asked_first, asked_on}}
 use Rattle.compute_command.proofs.Arrivals.{all_taken, parts_on, rest_is, smaller, so_on, turn_takes}
 use Rattle.compute_command.proofs.arriving.Arriving.take.Goals as goal
 

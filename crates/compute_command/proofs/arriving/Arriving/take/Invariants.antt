@@ -1,8 +1,6 @@
 use Rattle.std.proofs.Common.{◌≡◌, ℕ, List, ◌++◌, length}
 use Rattle.key_port.specs.Answers.{rules}
-use Rattle.compute_command.specs.Arriving.{IsArriving, WithMore}
-use Rattle.compute_command.specs.Asked.{AskedBefore, AsksArrived}
-use Rattle.compute_command.specs.Checked.{TellsOn}
+use Rattle.compute_command.specs.{Arriving.{IsArriving, WithMore}, Asked.{AskedBefore, AsksArrived}, Checked.TellsOn}
 use Rattle.compute_command.proofs.arriving.Arriving.take.Given as goal
 
 abbrev pub invariant-turns : goal.invariant-turns

@@ -1,8 +1,6 @@
 use Rattle.std.proofs.Common.{◌+◌, arith, refl, subst}
 use Rattle.key_port.specs.Answers.{rules}
-use Rattle.compute_command.specs.declared.rest.Turn.{Turn}
-use Rattle.compute_command.specs.Rests.{room_behind}
-use Rattle.compute_command.proofs.Asking.{asked_ended, asked_same}
+use Rattle.compute_command.{specs.{declared.rest.Turn.Turn, Rests.room_behind}, proofs.Asking.{asked_ended, asked_same}}
 use Rattle.compute_command.proofs.Arrivals.{TurnsBehind, behind_short, ends_short, may_check, no_vote_ends, vote_ended}
 use Rattle.compute_command.proofs.arriving.Arriving.turn.Goals as goal
 

@@ -1,9 +1,7 @@
-use Rattle.std.proofs.Common.{◌∙◌, List, ℕ, Option, ap, subst, sym, true}
-use Rattle.std.specs.Option.{option_map}
+use Rattle.std.{proofs.Common.{◌∙◌, List, ℕ, Option, ap, subst, sym, true}, specs.Option.option_map}
 use Rattle.frame_terms.specs.declared.fault.FrameFault.{FrameFault}
 use Rattle.blank_lines.specs.Behind.{fault_behind}
-use Rattle.compute_command.specs.Beyonds.{EndsBeyond, ReadsFront}
-use Rattle.compute_command.proofs.Beyonds.{finished, fits_told, short_view}
+use Rattle.compute_command.{specs.Beyonds.{EndsBeyond, ReadsFront}, proofs.Beyonds.{finished, fits_told, short_view}}
 use Rattle.compute_command.proofs.beyond.Beyond.finish.Goals as goal
 
 pub further-requires : goal.further-requires

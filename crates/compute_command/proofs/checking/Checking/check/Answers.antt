@@ -1,12 +1,10 @@
 use Rattle.std.proofs.Common.{◌≡◌, ◌∙◌, ◌+◌, Some, ap, refl, sym}
 use Rattle.key_port.specs.Answers.{rules}
-use Rattle.vote_terms.specs.Votes.{ReadVote}
-use Rattle.vote_terms.specs.Held.{votes_with}
+use Rattle.vote_terms.specs.{Votes.ReadVote, Held.votes_with}
 use Rattle.vote_doc.specs.Holdings.{Holding}
-use Rattle.compute_command.specs.declared.refusal.AcceptRefusal.{AcceptRefusal}
-use Rattle.compute_command.proofs.Checks.{first_refused, held_too, none_if, still_refused, tells_on, tells_refused}
-use Rattle.compute_command.proofs.VoteAsking.{accepted_too, not_asked, refused_now}
-use Rattle.compute_command.proofs.Faults.{no_fault}
+use Rattle.compute_command.{specs.declared.refusal.AcceptRefusal.AcceptRefusal, proofs.Checks.{first_refused, held_too}}
+use Rattle.compute_command.proofs.{Checks.{none_if, still_refused, tells_on, tells_refused}, VoteAsking.accepted_too}
+use Rattle.compute_command.proofs.{VoteAsking.{not_asked, refused_now}, Faults.no_fault}
 use Rattle.compute_command.proofs.checking.Checking.check.Goals as goal
 
 pub returns-then-is_some-clause-checked : goal.returns-then-is_some-clause-checked

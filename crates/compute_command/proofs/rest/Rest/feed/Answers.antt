@@ -1,6 +1,5 @@
 use Rattle.std.proofs.Common.{ℕ, List, IfOk, length}
-use Rattle.compute_command.specs.Rests.{Turns}
-use Rattle.compute_command.proofs.Stages.{fault_goes_on, reading_goes, reads_open}
+use Rattle.compute_command.{specs.Rests.Turns, proofs.Stages.{fault_goes_on, reading_goes, reads_open}}
 use Rattle.compute_command.proofs.rest.Rest.feed.Goals as goal
 
 pub read_on-requires-clause-open_ : goal.read_on-requires-clause-open_

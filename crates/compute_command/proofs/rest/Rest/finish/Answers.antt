@@ -1,6 +1,5 @@
 use Rattle.std.proofs.Common.{false, true, arith}
-use Rattle.compute_command.proofs.Rests.{open_has_none}
-use Rattle.compute_command.proofs.Stages.{end_found, fault_ends, open_ends, reads_open}
+use Rattle.compute_command.proofs.{Rests.open_has_none, Stages.{end_found, fault_ends, open_ends, reads_open}}
 use Rattle.compute_command.proofs.Turning.{ends_none}
 use Rattle.compute_command.proofs.rest.Rest.finish.Goals as goal
 

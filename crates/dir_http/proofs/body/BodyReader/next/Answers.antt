@@ -1,7 +1,5 @@
 use Rattle.std.proofs.Common.{◌≡◌, ◌+◌, ◌≤◌, ◌++◌, List, ℕ, take, drop, length, refl, ap, sym, subst, arith}
-use Rattle.std.proofs.Common.{length-take, length-append}
-use Rattle.std.proofs.lemmas.List.{take-append-le}
-use Rattle.std.specs.Io.KnownBytes.{Consumes}
+use Rattle.std.{proofs.{Common.{length-take, length-append}, lemmas.List.take-append-le}, specs.Io.KnownBytes.Consumes}
 use Rattle.dir_http.proofs.Bodies.{early_comes, source_comes}
 use Rattle.dir_http.proofs.body.BodyReader.next.Goals as goal
 

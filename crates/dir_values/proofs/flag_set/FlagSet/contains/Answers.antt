@@ -1,7 +1,5 @@
 use Rattle.std.proofs.Common.{ℕ, List, sym, ap, ◌∙◌}
-use Rattle.dir_values.specs.FlagSets.{has_flag}
-use Rattle.dir_values.specs.Lending.{is_at, place_of}
-use Rattle.dir_values.proofs.FlagPlaces.{has_at_place}
+use Rattle.dir_values.{specs.{FlagSets.has_flag, Lending.{is_at, place_of}}, proofs.FlagPlaces.has_at_place}
 use Rattle.dir_values.proofs.flag_set.FlagSet.contains.Goals as goal
 
 pub returns : goal.returns

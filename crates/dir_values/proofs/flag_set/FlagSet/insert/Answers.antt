@@ -1,6 +1,6 @@
 use Rattle.std.proofs.Common.{◌≡◌, sym, ◌∙◌, subst, rules}
-use Rattle.dir_values.specs.FlagSets.{Ascend, with_flag}
-use Rattle.dir_values.proofs.Flags.{with_flag-there, with_flag-absent, Ascend-with_flag}
+use Rattle.dir_values.{specs.FlagSets.{Ascend, with_flag}, proofs.Flags.{with_flag-there, with_flag-absent}}
+use Rattle.dir_values.proofs.Flags.{Ascend-with_flag}
 use Rattle.dir_values.proofs.flag_set.FlagSet.insert.Goals as goal
 
 pub returns-then-is_at-clause-ok : goal.returns-then-is_at-clause-ok

@@ -1,8 +1,6 @@
 use Rattle.std.proofs.Common.{not, sym, ap, ◌∙◌, subst}
-use Rattle.dir_values.specs.WordSets.{words_in}
-use Rattle.dir_values.specs.FlagSets.{Ascend}
-use Rattle.dir_values.proofs.Flags.{Ascend-with_flag}
-use Rattle.dir_values.proofs.WordSets.{words_with, words_have}
+use Rattle.dir_values.{specs.{WordSets.words_in, FlagSets.Ascend}, proofs.{Flags.Ascend-with_flag, WordSets.words_with}}
+use Rattle.dir_values.proofs.WordSets.{words_have}
 use Rattle.dir_values.proofs.word_set.WordSet.insert.Goals as goal
 
 pub returns-clause-added : goal.returns-clause-added

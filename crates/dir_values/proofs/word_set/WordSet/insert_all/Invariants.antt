@@ -1,5 +1,4 @@
-use Rattle.std.proofs.Common.{◌≡◌, take}
-use Rattle.std.specs.List.{fold}
+use Rattle.std.{proofs.Common.{◌≡◌, take}, specs.List.fold}
 use Rattle.dir_values.specs.FlagSets.{with_flag}
 use Rattle.dir_values.proofs.word_set.WordSet.insert_all.Given as goal
 

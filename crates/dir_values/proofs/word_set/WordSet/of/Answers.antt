@@ -1,7 +1,5 @@
-use Rattle.std.proofs.Common.{◌∙◌, ap}
-use Rattle.std.specs.List.{fold}
-use Rattle.dir_values.specs.FlagSets.{with_flag}
-use Rattle.dir_values.proofs.SetsAlone.{set_of_ascending}
+use Rattle.std.{proofs.Common.{◌∙◌, ap}, specs.List.fold}
+use Rattle.dir_values.{specs.FlagSets.with_flag, proofs.SetsAlone.set_of_ascending}
 use Rattle.dir_values.proofs.word_set.WordSet.of.Goals as goal
 
 pub returns : goal.returns

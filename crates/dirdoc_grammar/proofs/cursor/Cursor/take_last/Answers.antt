@@ -1,7 +1,6 @@
 use Rattle.std.proofs.Common.{Ok, subst, Option}
-use Rattle.dirdoc_grammar.specs.declared.item.Item.{Item}
-use Rattle.dirdoc_grammar.specs.Reading.{LastOf}
-use Rattle.dirdoc_grammar.proofs.Giving.{last_item, last_fault, last_none}
+use Rattle.dirdoc_grammar.{specs.{declared.item.Item.Item, Reading.LastOf}, proofs.Giving.{last_item, last_fault}}
+use Rattle.dirdoc_grammar.proofs.Giving.{last_none}
 use Rattle.dirdoc_grammar.proofs.cursor.Cursor.take_last.Goals as goal
 
 pub returns-in-Ok-Some-clause-takes : goal.returns-in-Ok-Some-clause-takes

@@ -1,7 +1,5 @@
 use Rattle.std.proofs.Common.{false}
-use Rattle.dirdoc_grammar.proofs.LaterItems.{later_at}
-use Rattle.dirdoc_grammar.proofs.Cursors.{at_stop}
-use Rattle.dirdoc_grammar.proofs.Giving.{gives_item, gives_fault, gives_stop}
+use Rattle.dirdoc_grammar.proofs.{LaterItems.later_at, Cursors.at_stop, Giving.{gives_item, gives_fault, gives_stop}}
 use Rattle.dirdoc_grammar.proofs.cursor.Cursor.take_next.Goals as goal
 
 pub returns-in-Whole-clause-takes : goal.returns-in-Whole-clause-takes

@@ -1,6 +1,5 @@
 use Rattle.std.proofs.Common.{length}
-use Rattle.dirdoc_grammar.proofs.LaterItems.{later_of}
-use Rattle.dirdoc_grammar.proofs.Giving.{gives_quiet}
+use Rattle.dirdoc_grammar.proofs.{LaterItems.later_of, Giving.gives_quiet}
 use Rattle.dirdoc_grammar.proofs.cursor.Cursor.waits.Goals as goal
 
 pub returns-then-quiet-clause-takes : goal.returns-then-quiet-clause-takes

@@ -1,5 +1,4 @@
-use Rattle.std.proofs.Common.{◌≡◌}
-use Rattle.std.specs.Prelude.{slice_get}
+use Rattle.std.{proofs.Common.◌≡◌, specs.Prelude.slice_get}
 use Rattle.item_terms.specs.Words.{words_of, argument}
 use Rattle.dirdoc_grammar.proofs.item.Item.argument.Given as goal
 

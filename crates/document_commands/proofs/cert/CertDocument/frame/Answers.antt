@@ -1,9 +1,7 @@
 use Rattle.std.proofs.Common.{length, refl}
 use Rattle.item_terms.specs.Items.{items_of}
 use Rattle.frame_terms.specs.Documents.{document_of}
-use Rattle.authority_certs.specs.Certs.{cert_in}
-use Rattle.authority_certs.specs.Heads.{head_with, no_head}
-use Rattle.authority_certs.specs.Reading.{max_cert, with_cert}
+use Rattle.authority_certs.specs.{Certs.cert_in, Heads.{head_with, no_head}, Reading.{max_cert, with_cert}}
 use Rattle.authority_certs.specs.Tables.{cert_tables}
 use Rattle.document_commands.proofs.MadeOf.{comes_of}
 use Rattle.document_commands.proofs.cert.CertDocument.frame.Goals as goal

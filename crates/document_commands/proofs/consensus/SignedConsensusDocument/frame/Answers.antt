@@ -3,10 +3,9 @@ use Rattle.item_terms.specs.Items.{items_of}
 use Rattle.frame_terms.specs.Documents.{document_of}
 use Rattle.consensus_frame.specs.Tables.{consensus_tables}
 use Rattle.consensus_terms.specs.declared.flavour.Flavour.{Flavour}
-use Rattle.consensus_doc.specs.Drafts.{no_draft, with_section}
-use Rattle.consensus_doc.specs.Reading.{consensus_in, consensus_of, flavour_of, max_consensus, with_consensus}
-use Rattle.document_commands.specs.Ends.{ComesOf}
-use Rattle.document_commands.proofs.MadeOf.{comes_of}
+use Rattle.consensus_doc.specs.{Drafts.{no_draft, with_section}, Reading.{consensus_in, consensus_of, flavour_of}}
+use Rattle.consensus_doc.specs.Reading.{max_consensus, with_consensus}
+use Rattle.document_commands.{specs.Ends.ComesOf, proofs.MadeOf.comes_of}
 use Rattle.document_commands.proofs.consensus.SignedConsensusDocument.frame.Goals as goal
 
 pub returns-clause-comes : goal.returns-clause-comes

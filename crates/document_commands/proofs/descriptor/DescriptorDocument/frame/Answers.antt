@@ -2,10 +2,8 @@ use Rattle.std.proofs.Common.{◌-◌, length, drop, refl, take}
 use Rattle.item_terms.specs.Items.{items_of}
 use Rattle.frame_terms.specs.Documents.{document_of}
 use Rattle.descriptor_frame.specs.Tables.{descriptor_tables}
-use Rattle.descriptor_doc.specs.Descriptors.{descriptor_in}
-use Rattle.descriptor_doc.specs.Heads.{kept_with, none_kept}
-use Rattle.descriptor_doc.specs.Reading.{front_of, max_descriptor, with_descriptor}
-use Rattle.descriptor_doc.proofs.DescriptorPlaces.{descriptor_faults}
+use Rattle.descriptor_doc.specs.{Descriptors.descriptor_in, Heads.{kept_with, none_kept}, Reading.front_of}
+use Rattle.descriptor_doc.{specs.Reading.{max_descriptor, with_descriptor}, proofs.DescriptorPlaces.descriptor_faults}
 use Rattle.document_commands.proofs.MadeOf.{comes_behind}
 use Rattle.document_commands.proofs.descriptor.DescriptorDocument.frame.Goals as goal
 

@@ -2,9 +2,7 @@ use Rattle.std.proofs.Common.{length, refl}
 use Rattle.item_terms.specs.Items.{items_of}
 use Rattle.frame_terms.specs.Documents.{document_of}
 use Rattle.detached_frame.specs.Tables.{detached_tables}
-use Rattle.detached_doc.specs.Facts.{detached_in}
-use Rattle.detached_doc.specs.Kept.{kept_with, none_kept}
-use Rattle.detached_doc.specs.Reading.{max_detached, with_detached}
+use Rattle.detached_doc.specs.{Facts.detached_in, Kept.{kept_with, none_kept}, Reading.{max_detached, with_detached}}
 use Rattle.document_commands.proofs.MadeOf.{comes_of}
 use Rattle.document_commands.proofs.detached.DetachedDocument.frame.Goals as goal
 

@@ -1,12 +1,9 @@
 use Rattle.std.proofs.Common.{length, refl}
 use Rattle.item_terms.specs.Items.{items_of}
 use Rattle.frame_terms.specs.Documents.{document_of}
-use Rattle.micro_desc.specs.Heads.{head_with, no_head}
-use Rattle.micro_desc.specs.Micros.{micro_in}
-use Rattle.micro_desc.specs.Reading.{max_micro, with_micro}
+use Rattle.micro_desc.specs.{Heads.{head_with, no_head}, Micros.micro_in, Reading.{max_micro, with_micro}}
 use Rattle.micro_desc.specs.Tables.{micro_tables}
-use Rattle.document_commands.specs.NextMicro.{next_micro, or_refused, unless_behind}
-use Rattle.document_commands.proofs.MadeOf.{comes_of}
+use Rattle.document_commands.{specs.NextMicro.{next_micro, or_refused, unless_behind}, proofs.MadeOf.comes_of}
 use Rattle.document_commands.proofs.micro.MicroDocument.frame.Goals as goal
 
 pub returns-clause-comes : goal.returns-clause-comes

@@ -2,10 +2,8 @@ use Rattle.std.proofs.Common.{length, refl, take}
 use Rattle.item_terms.specs.Items.{items_of}
 use Rattle.frame_terms.specs.Documents.{document_of}
 use Rattle.vote_frame.specs.Tables.{vote_tables}
-use Rattle.vote_doc.specs.Facts.{vote_in}
-use Rattle.vote_doc.specs.Kept.{kept_with, none_kept}
+use Rattle.vote_doc.specs.{Facts.vote_in, Kept.{kept_with, none_kept}, Reading.with_facts}
 use Rattle.vote_terms.specs.Votes.{max_vote}
-use Rattle.vote_doc.specs.Reading.{with_facts}
 use Rattle.document_commands.proofs.MadeOf.{comes_of}
 use Rattle.document_commands.proofs.vote.VoteDocument.frame.Goals as goal
 

@@ -1,7 +1,5 @@
-use Rattle.std.proofs.Common.{◌≡◌, ◌++◌}
-use Rattle.std.specs.Prelude.{filter}
-use Rattle.field_votes.specs.VersionSets.{texts_in}
-use Rattle.field_votes.specs.Versions.{is_listed_by_most}
+use Rattle.std.{proofs.Common.{◌≡◌, ◌++◌}, specs.Prelude.filter}
+use Rattle.field_votes.specs.{VersionSets.texts_in, Versions.is_listed_by_most}
 use Rattle.field_votes.proofs.version_set.VersionSet.copies_by_most.Given as goal
 
 abbrev pub invariant-loop-version : goal.invariant-loop-version

@@ -1,6 +1,5 @@
 use Rattle.std.proofs.Common.{ap, ◌∙◌}
-use Rattle.field_votes.specs.VersionSets.{texts_in}
-use Rattle.field_votes.proofs.VersionSets.{texts_with}
+use Rattle.field_votes.{specs.VersionSets.texts_in, proofs.VersionSets.texts_with}
 use Rattle.field_votes.proofs.version_set.VersionSet.insert.Goals as goal
 
 pub returns : goal.returns

@@ -1,7 +1,5 @@
-use Rattle.std.proofs.Common.{List, ℕ, ap, sym, ◌∙◌, drop, ◌+◌}
-use Rattle.std.specs.List.{fold}
-use Rattle.field_votes.specs.Versions.{with_version}
-use Rattle.field_votes.proofs.KeptFlags.{flag_before_the_rest}
+use Rattle.std.{proofs.Common.{List, ℕ, ap, sym, ◌∙◌, drop, ◌+◌}, specs.List.fold}
+use Rattle.field_votes.{specs.Versions.with_version, proofs.KeptFlags.flag_before_the_rest}
 use Rattle.field_votes.proofs.version_set.VersionSet.insert_all.Goals as goal
 
 pub versions-preserved : goal.versions-preserved

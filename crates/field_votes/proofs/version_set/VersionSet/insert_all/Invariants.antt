@@ -1,5 +1,4 @@
-use Rattle.std.proofs.Common.{◌≡◌, drop}
-use Rattle.std.specs.List.{fold}
+use Rattle.std.{proofs.Common.{◌≡◌, drop}, specs.List.fold}
 use Rattle.field_votes.specs.Versions.{with_version}
 use Rattle.field_votes.proofs.version_set.VersionSet.insert_all.Given as goal
 

@@ -1,5 +1,4 @@
-use Rattle.std.proofs.Common.{rules, ◌≡◌, ◌∙◌, ◌-◌, ◌/◌, ℕ, ap, length}
-use Rattle.std.proofs.lemmas.List.Sorted.{length_permutation}
+use Rattle.std.proofs.{Common.{rules, ◌≡◌, ◌∙◌, ◌-◌, ◌/◌, ℕ, ap, length}, lemmas.List.Sorted.length_permutation}
 use Rattle.count_terms.specs.Counts.{member_at}
 use Rattle.flag_rules.proofs.ascending.Ascending.low_median.Goals as goal
 

@@ -1,8 +1,5 @@
-use Rattle.std.proofs.Common.{rules, ◌≡◌, ◌∙◌, sym, []}
-use Rattle.std.specs.List.{fold}
-use Rattle.flag_rules.specs.Names.{name_table, names_of}
-use Rattle.flag_rules.specs.Private.{with_name}
-use Rattle.flag_rules.proofs.NameSets.{with_rows}
+use Rattle.std.{proofs.Common.{rules, ◌≡◌, ◌∙◌, sym, []}, specs.List.fold}
+use Rattle.flag_rules.{specs.{Names.{name_table, names_of}, Private.with_name}, proofs.NameSets.with_rows}
 use Rattle.flag_rules.proofs.flags.Flags.names.Goals as goal
 
 pub returns : goal.returns

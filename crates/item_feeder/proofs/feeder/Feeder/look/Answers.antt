@@ -1,9 +1,7 @@
 use Rattle.std.proofs.Common.{◌≡◌, ◌≤◌, ◌+◌, List, ℕ, length, ap, subst, arith, ◌∙◌}
-use Rattle.dirdoc_grammar.specs.declared.take.Take.TheVariants.{NotYet}
-use Rattle.dirdoc_grammar.specs.Feeding.{Fed}
-use Rattle.item_feeder.specs.Feeders.{Shows, behind_next, fed_with}
-use Rattle.item_feeder.proofs.Feeders.{fault_near, waits_with, within_length}
-use Rattle.item_feeder.proofs.Later.{later, shows_later}
+use Rattle.dirdoc_grammar.specs.{declared.take.Take.TheVariants.NotYet, Feeding.Fed}
+use Rattle.item_feeder.{specs.Feeders.{Shows, behind_next, fed_with}, proofs.Feeders.{fault_near, waits_with}}
+use Rattle.item_feeder.proofs.{Feeders.within_length, Later.{later, shows_later}}
 use Rattle.item_feeder.proofs.feeder.Feeder.look.Goals as goal
 
 pub take_at-requires-clause-fault : goal.take_at-requires-clause-fault

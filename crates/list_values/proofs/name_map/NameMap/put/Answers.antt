@@ -1,7 +1,5 @@
 use Rattle.std.proofs.Common.{sym, ap, ◌∙◌, subst}
-use Rattle.list_values.specs.Lending.{entries_in}
-use Rattle.list_values.specs.Maps.{Ascend}
-use Rattle.list_values.proofs.Maps.{entries_with, Ascend-with_value}
+use Rattle.list_values.{specs.{Lending.entries_in, Maps.Ascend}, proofs.Maps.{entries_with, Ascend-with_value}}
 use Rattle.list_values.proofs.name_map.NameMap.put.Goals as goal
 
 pub returns : goal.returns

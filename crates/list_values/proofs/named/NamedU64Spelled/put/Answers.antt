@@ -1,10 +1,8 @@
-use Rattle.std.proofs.Common.{[], ◌∷◌, ◌++◌, map, ap, ◌∙◌, append_assoc}
+use Rattle.std.proofs.{Common.{[], ◌∷◌, ◌++◌, map, ap, ◌∙◌, append_assoc}, lemmas.List.take_rest}
 use Rattle.std.specs.List.{join_with_byte}
-use Rattle.std.proofs.lemmas.List.{take_rest}
 use Rattle.item_terms.specs.Bytes.{comma}
 use Rattle.text_page.proofs.Pages.{also, same_text}
-use Rattle.list_values.specs.Equations.{equals}
-use Rattle.list_values.specs.NumberSets.{range_text}
+use Rattle.list_values.specs.{Equations.equals, NumberSets.range_text}
 use Rattle.list_values.proofs.named.NamedU64Spelled.put.Goals as goal
 
 pub returns : goal.returns

@@ -1,10 +1,6 @@
-use Rattle.std.proofs.Common.{◌≡◌, ℕ, List, subst, ap, ◌∙◌}
-use Rattle.std.specs.Prelude.{OnOk, OnErr}
-use Rattle.std.specs.List.{fold}
-use Rattle.dir_values.specs.FlagSets.{with_flag}
-use Rattle.dir_values.specs.WordSets.{HasFirst}
-use Rattle.list_values.specs.Maps.{names_of}
-use Rattle.list_values.proofs.ListedProtocols.{names_listed}
+use Rattle.std.{proofs.Common.{◌≡◌, ℕ, List, subst, ap, ◌∙◌}, specs.{Prelude.{OnOk, OnErr}, List.fold}}
+use Rattle.dir_values.specs.{FlagSets.with_flag, WordSets.HasFirst}
+use Rattle.list_values.{specs.Maps.names_of, proofs.ListedProtocols.names_listed}
 use Rattle.list_values.proofs.proto_ranges.ProtoRanges.add_names.Goals as goal
 
 pub returns-clause-ok : goal.returns-clause-ok

@@ -1,6 +1,5 @@
 use Rattle.std.proofs.Common.{subst}
-use Rattle.list_values.specs.Maps.{Ascend}
-use Rattle.list_values.proofs.ListedProtocols.{listed_ascend}
+use Rattle.list_values.{specs.Maps.Ascend, proofs.ListedProtocols.listed_ascend}
 use Rattle.list_values.proofs.proto_ranges.ProtoRanges.len.Goals as goal
 
 pub returns-clause-ascending : goal.returns-clause-ascending

@@ -1,9 +1,6 @@
 use Rattle.std.proofs.Common.{rules, ◌≡◌, ℕ, ◌+◌, ◌++◌, ◌≤◌, List, length, map, vec_len, vec_capacity, subst, ap, ◌∙◌}
-use Rattle.std.specs.Prelude.{OnOk, IsOk}
-use Rattle.std.specs.List.{join_with_byte}
-use Rattle.list_values.specs.Masks.{listed_text}
-use Rattle.list_values.specs.Protocols.{protocols_text}
-use Rattle.list_values.proofs.ListedProtocols.{texts_listed}
+use Rattle.std.specs.{Prelude.{OnOk, IsOk}, List.join_with_byte}
+use Rattle.list_values.{specs.{Masks.listed_text, Protocols.protocols_text}, proofs.ListedProtocols.texts_listed}
 use Rattle.list_values.proofs.proto_ranges.ProtoRanges.push.Goals as goal
 
 pub returns-clause-ok : goal.returns-clause-ok

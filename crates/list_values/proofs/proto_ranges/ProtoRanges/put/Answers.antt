@@ -1,10 +1,7 @@
-use Rattle.std.proofs.Common.{map, ap, ◌∙◌}
-use Rattle.std.specs.List.{join_with_byte}
+use Rattle.std.{proofs.Common.{map, ap, ◌∙◌}, specs.List.join_with_byte}
 use Rattle.item_terms.specs.Bytes.{space}
 use Rattle.text_page.proofs.Pages.{same_text}
-use Rattle.list_values.specs.Masks.{listed_text}
-use Rattle.list_values.specs.Protocols.{protocols_text}
-use Rattle.list_values.proofs.ListedProtocols.{texts_listed}
+use Rattle.list_values.{specs.{Masks.listed_text, Protocols.protocols_text}, proofs.ListedProtocols.texts_listed}
 use Rattle.list_values.proofs.proto_ranges.ProtoRanges.put.Goals as goal
 
 pub returns : goal.returns

@@ -1,7 +1,5 @@
-use Rattle.std.proofs.Common.{◌≡◌, ◌++◌, drop}
-use Rattle.std.specs.List.{flat_map}
-use Rattle.mirror_core.specs.Answers.{certs_text}
-use Rattle.mirror_core.specs.States.{KeptCert}
+use Rattle.std.{proofs.Common.{◌≡◌, ◌++◌, drop}, specs.List.flat_map}
+use Rattle.mirror_core.specs.{Answers.certs_text, States.KeptCert}
 use Rattle.mirror_core.proofs.mirror.Mirror.certs.Given as goal
 
 abbrev pub invariant-certs : goal.invariant-certs

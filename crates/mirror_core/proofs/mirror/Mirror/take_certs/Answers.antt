@@ -1,7 +1,6 @@
 use Rattle.std.proofs.Common.{◌∙◌, sym, subst}
 use Rattle.key_port.specs.Answers.{rules as verifier_rules}
-use Rattle.mirror_core.specs.Answers.{CertTally, TakesEach, no_certs_yet}
-use Rattle.mirror_core.proofs.Sounds.{certs_sound}
+use Rattle.mirror_core.{specs.Answers.{CertTally, TakesEach, no_certs_yet}, proofs.Sounds.certs_sound}
 use Rattle.mirror_core.proofs.mirror.Mirror.take_certs.Goals as goal
 
 pub invariant_of-self : goal.invariant_of-self

@@ -1,8 +1,7 @@
 use Rattle.std.proofs.Common.{◌≡◌, ◌<◌, ◌≤◌, true, false, sym, subst, arith, Some, ap, ◌∙◌}
 use Rattle.dir_values.specs.Rosters.{has_member}
-use Rattle.period_terms.specs.declared.state.State.{State}
+use Rattle.period_terms.specs.{declared.state.State.State, States.{change, has_line}}
 use Rattle.period_terms.specs.declared.change.ChangeKind.TheVariants as kind
-use Rattle.period_terms.specs.States.{change, has_line}
 use Rattle.period_core.proofs.Standings.{few_micro, room_for_micro, with_micro_stands}
 use Rattle.period_core.proofs.state.PeriodState.hold_micro.Goals as goal
 

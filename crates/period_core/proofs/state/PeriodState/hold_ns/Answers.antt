@@ -1,8 +1,7 @@
 use Rattle.std.proofs.Common.{◌≡◌, ◌<◌, ◌≤◌, true, false, sym, subst, arith, Some, ap, ◌∙◌}
 use Rattle.dir_values.specs.Rosters.{has_member}
-use Rattle.period_terms.specs.declared.state.State.{State}
+use Rattle.period_terms.specs.{declared.state.State.State, States.{change, has_line}}
 use Rattle.period_terms.specs.declared.change.ChangeKind.TheVariants as kind
-use Rattle.period_terms.specs.States.{change, has_line}
 use Rattle.period_core.proofs.Standings.{few_ns, room_for_ns, with_ns_stands}
 use Rattle.period_core.proofs.state.PeriodState.hold_ns.Goals as goal
 

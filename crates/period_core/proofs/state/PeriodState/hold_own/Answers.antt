@@ -1,10 +1,9 @@
 use Rattle.std.proofs.Common.{◌≡◌, ◌<◌, ◌≤◌, ap, sym, ◌∙◌, subst, arith, Some}
 use Rattle.period_terms.specs.declared.stage.Stage.TheVariants as stage
-use Rattle.period_terms.specs.declared.state.State.{State}
+use Rattle.period_terms.specs.{declared.state.State.State, States.change}
 use Rattle.period_terms.specs.declared.change.ChangeKind.TheVariants as kind
-use Rattle.period_terms.specs.States.{change}
-use Rattle.period_core.specs.Standing.{stage_changes}
-use Rattle.period_core.proofs.Standings.{few_ns, few_micro, room_to_go_on, with_own_stands}
+use Rattle.period_core.{specs.Standing.stage_changes, proofs.Standings.{few_ns, few_micro, room_to_go_on}}
+use Rattle.period_core.proofs.Standings.{with_own_stands}
 use Rattle.period_core.proofs.state.PeriodState.hold_own.Goals as goal
 
 pub put_line-requires : goal.put_line-requires

@@ -1,9 +1,7 @@
 use Rattle.std.proofs.Common.{◌<◌, ◌≤◌, inr, sym, subst, arith, true, ◌≡◌}
 use Rattle.dir_values.specs.Rosters.{has_member}
-use Rattle.period_terms.specs.declared.state.State.{State}
-use Rattle.period_terms.specs.Offers.{most_vote_changes}
-use Rattle.period_core.specs.Judging.{Beats}
-use Rattle.period_core.proofs.Standings.{few_votes, room_to_keep, told_vote, with_vote_stands}
+use Rattle.period_terms.specs.{declared.state.State.State, Offers.most_vote_changes}
+use Rattle.period_core.{specs.Judging.Beats, proofs.Standings.{few_votes, room_to_keep, told_vote, with_vote_stands}}
 use Rattle.period_core.proofs.state.PeriodState.keep.Goals as goal
 
 pub place-requires : goal.place-requires

@@ -1,9 +1,7 @@
 use Rattle.std.proofs.Common.{subst, Err}
 use Rattle.key_port.specs.Answers.{rules}
-use Rattle.period_core.specs.declared.signing.Unsigned.{Unsigned}
-use Rattle.period_core.specs.Signing.{SignsBoth}
-use Rattle.period_core.proofs.Owns.{gives_nothing, gives_no_vote, gives_signer, gives_verifier, gives_refused}
-use Rattle.period_core.proofs.Owns.{gives_signed}
+use Rattle.period_core.{specs.{declared.signing.Unsigned.Unsigned, Signing.SignsBoth}, proofs.Owns.gives_nothing}
+use Rattle.period_core.proofs.Owns.{gives_no_vote, gives_signer, gives_verifier, gives_refused, gives_signed}
 use Rattle.period_core.proofs.state.PeriodState.own_signing.Goals as goal
 
 pub returns-in_default-clause-gives : goal.returns-in_default-clause-gives

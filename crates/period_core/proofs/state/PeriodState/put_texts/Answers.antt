@@ -1,8 +1,7 @@
 use Rattle.std.proofs.Common.{◌≡◌, ◌<◌, ◌≤◌, ap, refl, sym, subst, arith}
 use Rattle.period_terms.specs.declared.stage.Stage.TheVariants as stage
 use Rattle.period_terms.specs.declared.state.State.{State}
-use Rattle.period_core.specs.Standing.{stage_changes}
-use Rattle.period_core.proofs.Standings.{room_to_go_on, staged}
+use Rattle.period_core.{specs.Standing.stage_changes, proofs.Standings.{room_to_go_on, staged}}
 use Rattle.period_core.proofs.state.PeriodState.put_texts.Goals as goal
 
 pub add-requires-clause-room : goal.add-requires-clause-room

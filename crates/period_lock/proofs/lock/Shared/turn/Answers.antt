@@ -1,7 +1,5 @@
-use Rattle.std.proofs.Common.{◌≡◌, ◌+◌, ◌++◌, length, sym, subst}
-use Rattle.std.specs.Prelude.{option_to_list}
-use Rattle.period_lock.specs.Turns.{entries}
-use Rattle.period_lock.proofs.Turns.{kept_after, seen_after}
+use Rattle.std.{proofs.Common.{◌≡◌, ◌+◌, ◌++◌, length, sym, subst}, specs.Prelude.option_to_list}
+use Rattle.period_lock.{specs.Turns.entries, proofs.Turns.{kept_after, seen_after}}
 use Rattle.period_lock.proofs.lock.Shared.turn.Goals as goal
 
 pub give_back-requires-clause-stands : goal.give_back-requires-clause-stands

@@ -1,5 +1,4 @@
-use Rattle.std.proofs.Common.{◌≡◌, ◌∙◌, ◌++◌, ap, List, ℕ, length, arith}
-use Rattle.std.proofs.lemmas.List.{take_all, length-append}
+use Rattle.std.proofs.{Common.{◌≡◌, ◌∙◌, ◌++◌, ap, List, ℕ, length, arith}, lemmas.List.{take_all, length-append}}
 use Rattle.period_terms.proofs.short_bytes.ShortBytes.of_two.Goals as goal
 
 pub returns : goal.returns

@@ -1,10 +1,7 @@
 use Rattle.std.proofs.Common.{arith, ◌≡◌, ◌++◌, ◌∷◌, [], ℕ, List, length, take, ap, ◌∙◌, subst}
-use Rattle.std.proofs.lemmas.List.{replicate_more, length-replicate, take_all}
-use Rattle.std.proofs.lemmas.List.Elements.{All-more}
-use Rattle.vote_terms.specs.Votes.{ReadVote}
-use Rattle.vote_terms.specs.Entries.{Ascending}
-use Rattle.relay_select.specs.Cursors.{cursors, groups_left, AllAscend}
-use Rattle.relay_select.proofs.Groups.{all_left}
+use Rattle.std.proofs.lemmas.List.{replicate_more, length-replicate, take_all, Elements.All-more}
+use Rattle.vote_terms.specs.{Votes.ReadVote, Entries.Ascending}
+use Rattle.relay_select.{specs.Cursors.{cursors, groups_left, AllAscend}, proofs.Groups.all_left}
 use Rattle.relay_select.proofs.merge.Merge.new.Goals as goal
 
 pub votes-preserved : goal.votes-preserved

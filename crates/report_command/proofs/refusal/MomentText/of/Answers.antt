@@ -1,6 +1,5 @@
 use Rattle.std.proofs.Common.{List, ℕ, ◌++◌, length, sym, ap, ◌∙◌}
-use Rattle.dir_bytes.specs.FieldTexts.{moment_text}
-use Rattle.dir_bytes.proofs.Days.{length-moment_text}
+use Rattle.dir_bytes.{specs.FieldTexts.moment_text, proofs.Days.length-moment_text}
 use Rattle.report_command.proofs.refusal.MomentText.of.Goals as goal
 
 pub copy_from_slice-requires : goal.copy_from_slice-requires

@@ -1,8 +1,7 @@
 use Rattle.std.proofs.Common.{◌≡◌, refl}
 use Rattle.key_port.specs.Answers.{Rules, rules}
-use Rattle.serve_board.specs.Boards.{Locks, Parts, Advances}
-use Rattle.serve_board.proofs.Moving.{advance_told}
-use Rattle.serve_board.proofs.Views.{seen_as, state_of, at_state}
+use Rattle.serve_board.{specs.Boards.{Locks, Parts, Advances}, proofs.{Moving.advance_told, Views.{seen_as, state_of}}}
+use Rattle.serve_board.proofs.Views.{at_state}
 use Rattle.serve_board.proofs.board.Board.advance.Goals as goal
 
 pub returns-clause-event : goal.returns-clause-event

@@ -2,8 +2,7 @@ use Rattle.std.proofs.Common.{◌≡◌, refl}
 use Rattle.key_port.specs.Answers.{Rules, rules}
 use Rattle.period_terms.specs.Histories.{after}
 use Rattle.period_laws.specs.Checked.{IsCheckedHistory}
-use Rattle.serve_board.proofs.Standing.{reading_told}
-use Rattle.serve_board.proofs.Views.{state_of, at_state, sees}
+use Rattle.serve_board.proofs.{Standing.reading_told, Views.{state_of, at_state, sees}}
 use Rattle.serve_board.proofs.board.Board.ask.Goals as goal
 
 pub returns-clause-reading : goal.returns-clause-reading

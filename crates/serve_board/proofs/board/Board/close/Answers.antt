@@ -3,9 +3,7 @@ use Rattle.key_port.specs.Answers.{Rules, rules}
 use Rattle.period_lock.specs.Turns.{AreOf, EndsIn}
 use Rattle.period_terms.specs.Histories.{after}
 use Rattle.period_laws.specs.Checked.{IsCheckedHistory}
-use Rattle.serve_board.specs.Boards.{Locks, Parts}
-use Rattle.serve_board.specs.Stocks.{stock_after, AreKept}
-use Rattle.serve_board.specs.Turns.{Stands}
+use Rattle.serve_board.specs.{Boards.{Locks, Parts}, Stocks.{stock_after, AreKept}, Turns.Stands}
 use Rattle.serve_board.proofs.Meetings.{states_of, pools_of, ends_as}
 use Rattle.serve_board.proofs.board.Board.close.Goals as goal
 

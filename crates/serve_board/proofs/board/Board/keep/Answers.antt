@@ -2,10 +2,8 @@ use Rattle.std.proofs.Common.{◌≡◌, ap, subst, Some}
 use Rattle.key_port.specs.Answers.{Rules, rules}
 use Rattle.period_lock.specs.Turns.{entries}
 use Rattle.vote_pool.specs.Pools.{answer_to}
-use Rattle.serve_board.specs.Stocks.{stock_after, AreKept, kept_if}
-use Rattle.serve_board.proofs.Standing.{event_told}
-use Rattle.serve_board.specs.Events.{KeepsThere, kept_entry}
-use Rattle.serve_board.proofs.Views.{pool_of, at_pool, stores}
+use Rattle.serve_board.specs.{Stocks.{stock_after, AreKept, kept_if}, Events.{KeepsThere, kept_entry}}
+use Rattle.serve_board.proofs.{Standing.event_told, Views.{pool_of, at_pool, stores}}
 use Rattle.serve_board.proofs.board.Board.keep.Goals as goal
 
 pub returns-clause-event : goal.returns-clause-event

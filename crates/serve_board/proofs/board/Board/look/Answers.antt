@@ -1,8 +1,7 @@
 use Rattle.std.proofs.Common.{◌≡◌, refl}
 use Rattle.key_port.specs.Answers.{Rules, rules}
-use Rattle.serve_board.specs.Stocks.{stock_after, AreKept}
-use Rattle.serve_board.proofs.Standing.{reading_told}
-use Rattle.serve_board.proofs.Views.{pool_of, at_pool, looks}
+use Rattle.serve_board.{specs.Stocks.{stock_after, AreKept}, proofs.{Standing.reading_told, Views.{pool_of, at_pool}}}
+use Rattle.serve_board.proofs.Views.{looks}
 use Rattle.serve_board.proofs.board.Board.look.Goals as goal
 
 pub returns-clause-reading : goal.returns-clause-reading

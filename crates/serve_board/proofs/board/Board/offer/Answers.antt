@@ -2,15 +2,11 @@ use Rattle.std.proofs.Common.{◌≡◌, ap, subst, Some}
 use Rattle.key_port.specs.Answers.{Rules, rules}
 use Rattle.vote_terms.specs.Votes.{ReadVote}
 use Rattle.period_lock.specs.Turns.{entries}
-use Rattle.period_terms.specs.declared.answer.Answer.TheVariants.{Vote}
-use Rattle.period_terms.specs.declared.event.Event.TheVariants.{Offered}
+use Rattle.period_terms.specs.declared.{answer.Answer.TheVariants.Vote, event.Event.TheVariants.Offered}
 use Rattle.period_terms.specs.Histories.{after, entry_if}
 use Rattle.period_laws.specs.Checked.{IsCheckedHistory}
-use Rattle.serve_board.specs.Boards.{Makes, answer_at}
-use Rattle.serve_board.specs.Events.{OffersThere, offered_entry}
-use Rattle.serve_board.proofs.Places.{offer_number}
-use Rattle.serve_board.proofs.Standing.{event_told}
-use Rattle.serve_board.proofs.Views.{state_of, at_state, makes}
+use Rattle.serve_board.specs.{Boards.{Makes, answer_at}, Events.{OffersThere, offered_entry}}
+use Rattle.serve_board.proofs.{Places.offer_number, Standing.event_told, Views.{state_of, at_state, makes}}
 use Rattle.serve_board.proofs.board.Board.offer.Goals as goal
 
 pub returns-clause-event : goal.returns-clause-event

@@ -1,15 +1,11 @@
 use Rattle.std.proofs.Common.{◌≡◌, ap, subst, Some}
 use Rattle.key_port.specs.Answers.{Rules, rules}
 use Rattle.period_lock.specs.Turns.{entries}
-use Rattle.period_terms.specs.declared.answer.Answer.TheVariants.{Signature}
-use Rattle.period_terms.specs.declared.event.Event.TheVariants.{SignedIn}
+use Rattle.period_terms.specs.declared.{answer.Answer.TheVariants.Signature, event.Event.TheVariants.SignedIn}
 use Rattle.period_terms.specs.Histories.{after, entry_if}
 use Rattle.period_laws.specs.Checked.{IsCheckedHistory}
-use Rattle.serve_board.specs.Boards.{answer_at}
-use Rattle.serve_board.specs.Events.{SignsThere, signed_entry}
-use Rattle.serve_board.proofs.Places.{sign_in_number}
-use Rattle.serve_board.proofs.Standing.{event_told}
-use Rattle.serve_board.proofs.Views.{state_of, at_state, makes}
+use Rattle.serve_board.{specs.{Boards.answer_at, Events.{SignsThere, signed_entry}}, proofs.Places.sign_in_number}
+use Rattle.serve_board.proofs.{Standing.event_told, Views.{state_of, at_state, makes}}
 use Rattle.serve_board.proofs.board.Board.sign_in.Goals as goal
 
 pub returns-clause-event : goal.returns-clause-event

@@ -1,7 +1,6 @@
 use Rattle.std.proofs.Common.{◌≡◌, Some, sym, ap, ◌∙◌}
 use Rattle.key_port.specs.Answers.{Rules, rules}
-use Rattle.period_terms.specs.declared.answer.Answer.TheVariants.{Signature}
-use Rattle.period_terms.specs.declared.event.Event.TheVariants.{SignedIn}
+use Rattle.period_terms.specs.declared.{answer.Answer.TheVariants.Signature, event.Event.TheVariants.SignedIn}
 use Rattle.serve_board.proofs.PeriodStates.{steps_there, stands_more}
 use Rattle.serve_board.proofs.signing.OfferSignatureEventPeriod.apply.Goals as goal
 

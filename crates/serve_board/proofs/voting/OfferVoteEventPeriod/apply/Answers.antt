@@ -1,7 +1,6 @@
 use Rattle.std.proofs.Common.{◌≡◌, Some, sym, ap, ◌∙◌}
 use Rattle.key_port.specs.Answers.{Rules, rules}
-use Rattle.period_terms.specs.declared.answer.Answer.TheVariants.{Vote}
-use Rattle.period_terms.specs.declared.event.Event.TheVariants.{Offered}
+use Rattle.period_terms.specs.declared.{answer.Answer.TheVariants.Vote, event.Event.TheVariants.Offered}
 use Rattle.serve_board.proofs.PeriodStates.{steps_there, stands_more}
 use Rattle.serve_board.proofs.voting.OfferVoteEventPeriod.apply.Goals as goal
 

@@ -1,8 +1,6 @@
 use Rattle.std.proofs.Common.{refl}
 use Rattle.key_port.specs.Answers as keys
-use Rattle.serve_work.specs.Workers.{HasWorked}
-use Rattle.serve_work.proofs.Additions.{work_lasts, works_more}
-use Rattle.serve_work.proofs.Duties.{duties_work}
+use Rattle.serve_work.{specs.Workers.HasWorked, proofs.{Additions.{work_lasts, works_more}, Duties.duties_work}}
 use Rattle.serve_work.proofs.Places.{comes_more}
 use Rattle.serve_work.proofs.attendant.AttendantClerk.rest.Goals as goal
 

@@ -1,9 +1,7 @@
 use Rattle.std.proofs.Common.{refl}
 use Rattle.key_port.specs.Answers as keys
-use Rattle.serve_work.specs.Workers.{HasWorked}
-use Rattle.serve_work.proofs.Additions.{work_lasts, works_more}
-use Rattle.serve_work.proofs.Connections.{connection_works}
-use Rattle.serve_work.proofs.Places.{comes_more}
+use Rattle.serve_work.{specs.Workers.HasWorked, proofs.Additions.{work_lasts, works_more}}
+use Rattle.serve_work.proofs.{Connections.connection_works, Places.comes_more}
 use Rattle.serve_work.proofs.attendant.AttendantClerk.serve.Goals as goal
 
 pub returns-clause-comes : goal.returns-clause-comes

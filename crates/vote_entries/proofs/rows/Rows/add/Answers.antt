@@ -1,9 +1,7 @@
 use Rattle.std.proofs.Common.{◌≡◌, ◌∙◌, ◌++◌, List, true, length, take, ap, refl, le_refl, rules, arith}
 use Rattle.std.proofs.lemmas.List.{take_all, take_at}
 use Rattle.frame_values.specs.declared.found.Span.{Span}
-use Rattle.vote_entries.specs.Kept.{entry_of, is_after}
-use Rattle.vote_entries.specs.Rows.{kept_rows}
-use Rattle.vote_entries.specs.Saying.{addresses_in, micros_in}
+use Rattle.vote_entries.specs.{Kept.{entry_of, is_after}, Rows.kept_rows, Saying.{addresses_in, micros_in}}
 use Rattle.vote_entries.proofs.RowLists.{and_one_within, one_more_row, rows_kept, rows_stay, still_within}
 use Rattle.vote_entries.proofs.RowOrder.{and_one_ascends}
 use Rattle.vote_entries.proofs.rows.Rows.add.Goals as goal

@@ -1,8 +1,6 @@
-use Rattle.std.proofs.Common.{◌≡◌, ◌<◌, Some, length, map, ap, sym, ◌∙◌}
-use Rattle.std.proofs.lemmas.Option.{slice_get-get_or, get_or_from_slice_get}
-use Rattle.std.specs.Prelude.{slice_get}
-use Rattle.vote_entries.proofs.RowLists.{entry_at, row_inside}
-use Rattle.vote_entries.specs.Entries.{entry_in}
+use Rattle.std.proofs.{Common.{◌≡◌, ◌<◌, Some, length, map, ap, sym, ◌∙◌}, lemmas.Option.slice_get-get_or}
+use Rattle.std.{proofs.lemmas.Option.get_or_from_slice_get, specs.Prelude.slice_get}
+use Rattle.vote_entries.{proofs.RowLists.{entry_at, row_inside}, specs.Entries.entry_in}
 use Rattle.vote_entries.specs.declared.row.EntryRow.{EntryRow}
 use Rattle.vote_entries.proofs.rows.Rows.entry.Goals as goal
 

@@ -1,5 +1,4 @@
-use Rattle.std.proofs.Common.{◌≡◌, ◌+◌, ◌-◌, length, Some, ◌∙◌, rules}
-use Rattle.std.specs.Prelude.{slice_get}
+use Rattle.std.{proofs.Common.{◌≡◌, ◌+◌, ◌-◌, length, Some, ◌∙◌, rules}, specs.Prelude.slice_get}
 use Rattle.vote_entries.proofs.RowOrder.{last_decides}
 use Rattle.vote_entries.proofs.rows.Rows.is_after.Goals as goal
 

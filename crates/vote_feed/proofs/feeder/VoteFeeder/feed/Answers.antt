@@ -1,6 +1,5 @@
 use Rattle.std.proofs.Common.{Ok, ap, refl}
-use Rattle.vote_feed.specs.declared.fed.Fed.{Fed}
-use Rattle.vote_feed.proofs.Feeding.{tells_faulty, tells_whole}
+use Rattle.vote_feed.{specs.declared.fed.Fed.Fed, proofs.Feeding.{tells_faulty, tells_whole}}
 use Rattle.vote_feed.proofs.feeder.VoteFeeder.feed.Goals as goal
 
 pub returns-in-Some-clause-whole : goal.returns-in-Some-clause-whole

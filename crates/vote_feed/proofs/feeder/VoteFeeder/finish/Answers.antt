@@ -1,9 +1,7 @@
 use Rattle.std.proofs.Common.{ℕ, List, Err, subst}
 use Rattle.frame_terms.specs.declared.fault.ReadRefusal.TheVariants.{Frame}
 use Rattle.vote_doc.specs.Reading.{ReadsVote}
-use Rattle.vote_feed.specs.Lending.{taken_of}
-use Rattle.vote_feed.proofs.Feeding.{known_faulty, known_whole}
-use Rattle.vote_feed.proofs.Votes.{vote_refused}
+use Rattle.vote_feed.{specs.Lending.taken_of, proofs.{Feeding.{known_faulty, known_whole}, Votes.vote_refused}}
 use Rattle.vote_feed.proofs.feeder.VoteFeeder.finish.Goals as goal
 
 pub returns-in-Going : goal.returns-in-Going

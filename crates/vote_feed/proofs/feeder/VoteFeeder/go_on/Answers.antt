@@ -1,9 +1,6 @@
 use Rattle.std.proofs.Common.{◌∙◌, ◌+◌, ◌-◌, ◌++◌, ℕ, List, take, ap, arith, refl, subst, sym}
 use Rattle.vote_terms.specs.Votes.{max_vote}
-use Rattle.vote_feed.specs.Blanks.{blank_of}
-use Rattle.vote_feed.specs.declared.fed.Fed.{Fed}
-use Rattle.vote_feed.specs.Feeding.{Feeds, IsOpen}
-use Rattle.vote_feed.specs.Lending.{taken_of}
+use Rattle.vote_feed.specs.{Blanks.blank_of, declared.fed.Fed.Fed, Feeding.{Feeds, IsOpen}, Lending.taken_of}
 use Rattle.vote_feed.proofs.Feeding.{all_kept, feeds_view, few_then, fits_room, kept_anew, kept_open, kept_then}
 use Rattle.vote_feed.proofs.Feeding.{kept_within, none_beside}
 use Rattle.vote_feed.proofs.feeder.VoteFeeder.go_on.Goals as goal

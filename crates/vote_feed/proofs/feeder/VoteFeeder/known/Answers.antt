@@ -1,8 +1,6 @@
 use Rattle.std.proofs.Common.{ℕ, List, refl, subst}
-use Rattle.vote_feed.specs.Feeding.{IsFaulty, IsOpen, IsWhole}
-use Rattle.vote_feed.specs.Lending.{taken_of}
-use Rattle.vote_feed.proofs.Feeding.{known_by, known_faulty, known_whole}
-use Rattle.vote_feed.proofs.Votes.{whole_kept}
+use Rattle.vote_feed.{specs.{Feeding.{IsFaulty, IsOpen, IsWhole}, Lending.taken_of}, proofs.Feeding.known_by}
+use Rattle.vote_feed.proofs.{Feeding.{known_faulty, known_whole}, Votes.whole_kept}
 use Rattle.vote_feed.proofs.feeder.VoteFeeder.known.Goals as goal
 
 pub returns-in-Going : goal.returns-in-Going

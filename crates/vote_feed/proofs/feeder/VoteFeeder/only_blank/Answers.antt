@@ -1,6 +1,5 @@
 use Rattle.std.proofs.Common.{◌∙◌, ap}
-use Rattle.vote_feed.specs.Feeding.{are_blank_lines}
-use Rattle.vote_feed.specs.Lending.{taken_of}
+use Rattle.vote_feed.specs.{Feeding.are_blank_lines, Lending.taken_of}
 use Rattle.vote_feed.proofs.feeder.VoteFeeder.only_blank.Goals as goal
 
 pub returns : goal.returns

@@ -1,0 +1,3 @@
+mod Right
+mod Deliveries
+mod Listing
