@@ -16,6 +16,10 @@ the microdescriptors that ours vote and give out are held against those of the o
 With --measured a C tor measures the relays (contrib/measure), and between two periods each authority of ours is given a new
 station input and its daemon is started anew.
 
+With --faults faults are put into seven periods (faults.py). With --disagree authorities vote versions and protocols that
+differ, and a C tor is away for two periods of four (disagree.py). With --mirrors all relays and the client know the
+authorities by two mirrors before them.
+
 It wants to be root, and Debian's tor, nginx, iproute2 and python3-cryptography.
 """
 import argparse
@@ -30,24 +34,33 @@ import tempfile
 import time
 
 import client
+import disagree
 import families
+import faults
 import nodes
 import periods
 import processes
 import renewal
+import starting
+from starting import MOST_AUTHORITIES, MOST_RELAYS, READY
 
-# The most of each kind, and the least relays of which a client can make a path, also where some are of one family.
-MOST_AUTHORITIES, MOST_RELAYS = 9, 20
+# The least relays of which a client can make a path, also where some are of one family.
 LEAST_RELAYS, LEAST_OF_FAMILIES = 3, 4
+
+# The least of ours and of C tors into whose network faults are put, and those that can disagree.
+LEAST_OF_FAULTS, LEAST_OF_DISAGREE = (3, 2), (2, 2)
 
 # The most periods: what the stations say of relays holds for 2,700 seconds.
 MOST_PERIODS = 7
 
+# How many periods there are where authorities disagree.
+MOST_DISAGREE = 4
+
 # How long votes may be exchanged, and signatures as long again, in seconds.
 LEAST_DELAY, MOST_DELAY = 20, 60
 
-# How long all is given to start before votes are due, and how long the whole may take beside its periods, in seconds.
-READY, BESIDE = 45, 900
+# How long the whole may take beside its periods, in seconds.
+BESIDE = 900
 
 # Which package has which program.
 PACKAGES = {"tor": "tor", "tor-gencert": "tor", "nginx": "nginx", "ip": "iproute2", "unshare": "util-linux"}
@@ -55,86 +68,9 @@ PACKAGES = {"tor": "tor", "tor-gencert": "tor", "nginx": "nginx", "ip": "iproute
 # What runs a command in a namespace of its own, which ends with this process, however that ends.
 UNSHARE = ["setpriv", "--pdeathsig", "KILL", "unshare", "--net", "--mount", "--pid", "--fork", "--mount-proc", "--kill-child"]
 
-# The schedule of a tor that is asked which lines it votes.
-ASKED_SCHEDULE = (20, 4, 4)
-
 # What is asked by a number, and what is asked or not.
-NUMBERS, SWITCHES = ("ours", "tors", "relays", "periods", "newest_method", "delay"), ("families", "measured")
-
-
-def make_namespace():
-    """Makes the addresses of the namespace in which this runs, and a /run of its own."""
-    nodes.run(["ip", "link", "set", "lo", "up"])
-    addresses = [nodes.AUTHORITY % number for number in range(1, MOST_AUTHORITIES + 1)]
-    addresses += [nodes.RELAY % number for number in range(1, MOST_RELAYS + 1)]
-    for address in [*addresses, nodes.CLIENT, nodes.WEB, nodes.ASKED, renewal.ADDRESS]:
-        nodes.run(["ip", "address", "add", f"{address}/32", "dev", "lo"])
-
-
-def lines_of_tor(started, folder, version):
-    """The lines of a vote that must be alike, as this machine's tor votes them: one alone is asked."""
-    node = nodes.make_authority(folder, "asked", nodes.ASKED, 0, False)
-    node.schedule = ASKED_SCHEDULE
-    processes.start_tor(started, node, nodes.authority_torrc(folder, node, [node], version))
-    path = "/tor/status-vote/next/authority"
-    vote = started.wait_for("the vote of a tor that is alone", lambda: processes.get(node.address, path))
-    started.stop("asked")
-    text = vote.decode("utf-8", "replace")
-    methods = [line for line in text.splitlines() if line.startswith("consensus-methods ")]
-    print(f"tor {version} votes {' '.join(methods)}", flush=True)
-    return nodes.shared_lines(text)
-
-
-def make_all(given, folder):
-    """Makes the authorities and the relays."""
-    kinds = [True] * given.ours + [False] * given.tors
-    authorities = []
-    for number, is_ours in enumerate(kinds, 1):
-        each = nodes.make_authority(folder, f"auth{number}", nodes.AUTHORITY % number, number, is_ours)
-        each.newest_method, each.schedule = given.newest_method, (nodes.INTERVAL, given.delay, given.delay)
-        authorities.append(each)
-    relays = [nodes.make_relay(folder, number) for number in range(1, given.relays + 1)]
-    if given.families:
-        families.give_keys(folder, relays)
-    return authorities, relays
-
-
-def start_all(given, folder, started):
-    """Makes and starts all, and gives the authorities and relays."""
-    authorities, relays = make_all(given, folder)
-    version = nodes.tor_version()
-    shared = lines_of_tor(started, folder, version)
-    ours = [each for each in authorities if each.is_ours]
-    processes.start_key_service(started, folder, ours)
-    if given.measured:
-        renewal.start(started, folder, version)
-    more = ["--measuring", f"{renewal.ADDRESS}:{renewal.DIR_PORT}"] if given.measured else []
-    wait_for_moment(authorities[0].schedule)
-    for each in ours:
-        (each.folder / "station").write_text(nodes.station(each, authorities, relays, shared), "utf-8")
-        processes.start_daemon(started, given.dirauth, each)
-        processes.start_front(started, each, more)
-    for each in [each for each in authorities if not each.is_ours]:
-        processes.start_tor(started, each, nodes.authority_torrc(folder, each, authorities, version))
-    for each in ours:
-        started.wait_for(f"an answer of {each.name}", lambda each=each: answers(each))
-    for each in relays:
-        processes.start_tor(started, each, nodes.relay_torrc(folder, each, authorities))
-    client.start_web_server()
-    return authorities, relays
-
-
-def wait_for_moment(schedule):
-    """Waits where votes would be made before the relays are there."""
-    moment = periods.starts_at(time.time(), READY, schedule)
-    if moment > time.time():
-        print(f"votes are due too soon: the authorities start in {moment - time.time():.0f} seconds", flush=True)
-    periods.sleep_until(moment)
-
-
-def answers(node):
-    """Whether an authority's front answers."""
-    return processes.answer_of(node.address, "/") is not None
+NUMBERS = ("ours", "tors", "relays", "periods", "newest_method", "delay")
+SWITCHES = ("families", "measured", "faults", "disagree")
 
 
 def line_of(period, told):
@@ -149,8 +85,8 @@ def line_of(period, told):
 def go_through(given, folder):
     """Goes through the periods, and says whether all was right."""
     started = processes.Processes(folder)
-    make_namespace()
-    authorities, relays = start_all(given, folder, started)
+    starting.make_namespace()
+    authorities, relays = starting.start_all(given, folder, started)
     first = periods.first_valid_after(time.time(), READY, authorities[0].schedule)
     told = f"{len(authorities)} authorities, {len(relays)} relays; the first consensus is due"
     print(f"{told} in {first - time.time():.0f} seconds", flush=True)
@@ -158,15 +94,17 @@ def go_through(given, folder):
     for number in range(given.periods):
         period = periods.look_at(first + number * nodes.INTERVAL, authorities, folder)
         started.must_live()
-        told = [families.look_at(period, authorities, relays), used(started, authorities)]
+        told = [families.look_at(period, authorities, relays), starting.used(started, authorities)]
         if number == 0:
-            start_anew(started, relays)
+            starting.start_anew(started, relays, given.mirrors is not None)
         periods.sleep_until(period.valid_after + client.BEGINS_AT)
         done, fault = client.new_clients(started, folder, authorities, relays, not given.measured)
         told.append(done)
         period.faults += [fault] if fault else []
         if given.measured:
             period.faults += renew_all(given, started, authorities)
+        if given.mirrors:
+            told.append(mirrored(period, folder, authorities))
         print(line_of(period, told), flush=True)
         for each in period.faults:
             print(f"    {each}", flush=True)
@@ -174,22 +112,19 @@ def go_through(given, folder):
     return holds
 
 
-def used(started, authorities):
-    """What the daemons of our authorities have used."""
-    return ", ".join(f"{each.name} uses {started.used(f'{each.name}-daemon')}" for each in authorities if each.is_ours)
-
-
-def start_anew(started, relays):
-    """Starts the relays anew: what they asked for was not there yet, and they wait long before they ask again."""
-    for each in relays:
-        started.stop(each.name)
-        processes.start_tor(started, each)
-
-
 def renew_all(given, started, authorities):
     """Renews what our authorities are given: what went wrong."""
     told = [renewal.renew(started, given.dirauth, each) for each in authorities if each.is_ours]
     return [each for each in told if each is not None]
+
+
+def mirrored(period, folder, authorities):
+    """What the mirrors gave so far."""
+    counts = processes.given_by_mirrors(folder, authorities)
+    for each in processes.MIRRORED:
+        if not counts[each]:
+            period.faults.append(f"the mirrors gave nobody {each}")
+    return "the mirrors gave " + ", ".join(f"{each} {count} times" for each, count in sorted(counts.items()))
 
 
 def inside(given):
@@ -202,7 +137,8 @@ def inside(given):
     (folder / "resolv.conf").write_text("nameserver 127.0.0.1\n", "ascii")
     (folder / "run").mkdir()
     nodes.run(["mount", "--bind", str(folder / "run"), "/run"])
-    return 0 if go_through(given, folder) else 1
+    goes_through = faults.go_through if given.faults else disagree.go_through if given.disagree else go_through
+    return 0 if goes_through(given, folder) else 1
 
 
 def outside(given, words):
@@ -231,8 +167,9 @@ def look_before(given):
     """Looks whether all is there that is needed."""
     if os.geteuid() != 0:
         raise SystemExit("network: it wants to be root")
-    if not os.access(given.dirauth, os.X_OK) or given.dirauth.is_dir():
-        raise SystemExit(f"network: {given.dirauth} is no program")
+    for each in filter(None, (given.dirauth, given.mirrors)):
+        if not os.access(each, os.X_OK) or each.is_dir():
+            raise SystemExit(f"network: {each} is no program")
     for name, package in PACKAGES.items():
         if shutil.which(name) is None:
             raise SystemExit(f"network: there is no {name}: apt-get install {package}")
@@ -247,6 +184,9 @@ def look_at_numbers(given):
         raise SystemExit(f"network: 1 to {MOST_AUTHORITIES} authorities, one of them ours")
     if given.newest_method < nodes.NEWEST_OF_TOR and 3 * given.ours <= given.ours + given.tors:
         raise SystemExit(f"network: more than a third of the authorities ours, or --newest-method {nodes.NEWEST_OF_TOR}")
+    least = LEAST_OF_FAULTS if given.faults else LEAST_OF_DISAGREE if given.disagree else (1, 0)
+    if given.ours < least[0] or given.tors < least[1]:
+        raise SystemExit(f"network: --ours {least[0]} --tors {least[1]}, or more of them")
     if not LEAST_DELAY <= given.delay <= MOST_DELAY:
         raise SystemExit(f"network: {LEAST_DELAY} to {MOST_DELAY} seconds for votes")
     least = LEAST_OF_FAMILIES if given.families else LEAST_RELAYS
@@ -278,15 +218,21 @@ def main():
         help="for exchanging votes, and for signatures as long again (default: %(default)s)",
     )
     parser.add_argument("--measured", action="store_true", help="renew what is measured in each period")
+    parser.add_argument("--faults", action="store_true", help="put faults into seven periods")
+    parser.add_argument("--disagree", action="store_true", help="vote versions and protocols that differ, in four periods")
+    parser.add_argument("--mirrors", type=pathlib.Path, metavar="DIRMIRROR", help="two of this stand before all authorities")
     parser.add_argument("--folder", type=pathlib.Path, metavar="FOLDER", help="a new folder in which all is kept")
     parser.add_argument("--inside", action="store_true", help=argparse.SUPPRESS)
     given = parser.parse_args()
+    if given.faults or given.disagree:
+        given.periods, given.measured = (MOST_PERIODS, True) if given.faults else (MOST_DISAGREE, given.measured)
     if given.inside:
         sys.exit(inside(given))
     look_before(given)
     words = [str(given.dirauth.resolve())]
     words += [f"--{name.replace('_', '-')}={getattr(given, name)}" for name in NUMBERS]
     words += [f"--{name}" for name in SWITCHES if getattr(given, name)]
+    words += [f"--mirrors={given.mirrors.resolve()}"] if given.mirrors else []
     sys.exit(outside(given, words))
 
 

@@ -1,4 +1,6 @@
 """The authorities, relays and client of a network, with their keys, and what each is given: torrc or station input."""
+import base64
+import calendar
 import dataclasses
 import pathlib
 import re
@@ -15,9 +17,10 @@ SCHEDULE = (INTERVAL, DELAY, DELAY)
 # know, which is the newest that C tor 0.4.9 knows.
 NEWEST_METHOD, NEWEST_OF_TOR = 33, 35
 
-# Addresses in the network's namespace, all on its loopback: authorities, relays, the client, the web server, and a
-# tor that is asked which lines it votes.
-AUTHORITY, RELAY, CLIENT, WEB, ASKED = "10.77.0.%d", "10.77.1.%d", "10.77.2.1", "10.77.9.9", "10.77.3.1"
+# Addresses in the network's namespace, all on its loopback: authorities, mirrors before them, relays, the client, the web
+# server, and a tor that is asked which lines it votes.
+AUTHORITY, MIRROR, RELAY = "10.77.0.%d", "10.77.4.%d", "10.77.1.%d"
+CLIENT, WEB, ASKED = "10.77.2.1", "10.77.9.9", "10.77.3.1"
 
 # The ports of all tors and authorities, and the client's. Its control port is on loopback: tor opens none elsewhere.
 OR_PORT, DIR_PORT, SOCKS_PORT = 5001, 7001, 9050
@@ -49,8 +52,9 @@ SHARED_LINES = (
 class Node:
     """An authority or a relay. `fingerprint` is of the relay's identity, `identity` of the authority's.
 
-    An authority keeps a schedule, and one of ours knows the methods up to the newest. `families` are the IDs of the family
-    keys that a relay has, and `listed` are the relays that it lists as its family.
+    An authority keeps a schedule, and one of ours knows the methods up to the newest. Where a mirror stands before it, relays
+    and clients know it by the address of that. `families` are the IDs of the family keys that a relay has, and `listed` are
+    the relays that it lists as its family.
     """
 
     name: str
@@ -62,6 +66,7 @@ class Node:
     is_ours: bool = False
     newest_method: int = NEWEST_METHOD
     schedule: tuple = SCHEDULE
+    mirror: str = ""
     families: list = dataclasses.field(default_factory=list)
     listed: list = dataclasses.field(default_factory=list)
 
@@ -124,13 +129,14 @@ def make_relay(folder, number):
     return node
 
 
-def authority_line(node):
+def authority_line(node, is_mirrored):
     """The line by which a tor knows an authority. One of ours has no ORPort."""
     port = "" if node.is_ours else f"orport={OR_PORT} "
-    return f"DirAuthority {node.name} {port}no-v2 v3ident={node.identity} {node.address}:{DIR_PORT} {node.fingerprint}"
+    address = node.mirror if is_mirrored and node.mirror else node.address
+    return f"DirAuthority {node.name} {port}no-v2 v3ident={node.identity} {address}:{DIR_PORT} {node.fingerprint}"
 
 
-def common_lines(folder, node, authorities):
+def common_lines(folder, node, authorities, is_mirrored=True):
     """What every tor is given."""
     lines = [
         "TestingTorNetwork 1",
@@ -144,7 +150,7 @@ def common_lines(folder, node, authorities):
     ]
     for words, seconds in zip(("VotingInterval", "VoteDelay", "DistDelay"), node.schedule):
         lines += [f"V3Auth{words} {seconds} seconds", f"TestingV3AuthInitial{words} {seconds} seconds"]
-    return lines + [authority_line(each) for each in authorities]
+    return lines + [authority_line(each, is_mirrored) for each in authorities]
 
 
 def server_lines(node):
@@ -176,7 +182,7 @@ def relay_torrc(folder, node, authorities):
 
 def authority_torrc(folder, node, authorities, version):
     """The torrc of an authority that is a C tor, and recommends this version."""
-    lines = common_lines(folder, node, authorities) + server_lines(node)
+    lines = common_lines(folder, node, authorities, False) + server_lines(node)
     lines += [
         f"ContactInfo {node.name}@example.org",
         f"DirPort {node.address}:{DIR_PORT}",
@@ -243,3 +249,16 @@ def station(node, authorities, relays, shared, now=None):
 def shared_lines(vote):
     """The lines of a vote that all must vote alike."""
     return [line for line in vote.splitlines() if line.partition(" ")[0] in SHARED_LINES]
+
+
+def moment(text):
+    """The seconds since 1970 of a moment as documents write it, or None."""
+    try:
+        return calendar.timegm(time.strptime(text, "%Y-%m-%d %H:%M:%S"))
+    except ValueError:
+        return None
+
+
+def fingerprint_of(word):
+    """The fingerprint that the identity of an `r` line spells."""
+    return base64.b64decode(word + b"=").hex().upper()

@@ -96,21 +96,27 @@ def signers_of(text):
         yield words.split(), signature.partition("-----END SIGNATURE-----")[0]
 
 
-def why_not_signed(flavour, text, signers, why_not_rsa):
-    """Why a consensus has not a right signature of each authority, or None where it has."""
+def wrong_and_lacking(flavour, text, signers, why_not_rsa):
+    """What is wrong with a signature of a consensus, or None; and of which authorities it has none."""
     digest = hashlib.new(FLAVOURS[flavour], signed_part(text)[0]).digest()
     lacking = {each.identity: each for each in signers}
     for words, signature in signers_of(text):
         each = lacking.pop(words[-2], None) if len(words) > 1 else None
         if each is None or words[-1] != each.key_digest():
-            return f"it has a signature of a stranger: {' '.join(words)}"
+            return f"it has a signature of a stranger: {' '.join(words)}", []
         try:
             why = why_not_rsa(each.key, digest, base64.b64decode(signature))
         except ValueError:
             why = "no base64"
         if why is not None:
-            return f"the signature of {each.name}: {why}"
-    return f"no signature of {', '.join(each.name for each in lacking.values())}" if lacking else None
+            return f"the signature of {each.name}: {why}", []
+    return None, [each.name for each in lacking.values()]
+
+
+def why_not_signed(flavour, text, signers, why_not_rsa):
+    """Why a consensus has not a right signature of each authority, or None where it has."""
+    why, lacking = wrong_and_lacking(flavour, text, signers, why_not_rsa)
+    return f"no signature of {', '.join(lacking)}" if why is None and lacking else why
 
 
 def look_at_votes(period, authorities, keep):

@@ -8,7 +8,7 @@ import processes
 from processes import CONTRIB, get
 
 # Where the authority that measures is, which is of no network but its own.
-ADDRESS, DIR_PORT = "10.77.3.2", 9930
+NAME, ADDRESS, DIR_PORT = "measuring", "10.77.3.2", 9930
 
 
 def torrc(folder, node, version):
@@ -33,20 +33,27 @@ def torrc(folder, node, version):
 
 def start(started, folder, version):
     """Starts what measures."""
-    node = nodes.make_authority(folder, "measuring", ADDRESS, 0, False)
+    node = nodes.make_authority(folder, NAME, ADDRESS, 0, False)
     processes.start_tor(started, node, torrc(folder, node, version))
 
 
 def renew(started, dirauth, node):
     """Renews the input of an authority of ours and starts its daemon anew: what went wrong, or None."""
+    return renew_and_tell(started, dirauth, node, 0)[1]
+
+
+def renew_and_tell(started, dirauth, node, hours):
+    """Renews an input, and holds what was measured for so many hours: whether it was measured or held, and what went wrong."""
     before = get(node.address, "/tor/status-vote/current/consensus")
     words = [sys.executable, str(CONTRIB / "measure" / "renew.py"), "--station", str(node.folder / "station")]
-    words += ["--measuring", f"{ADDRESS}:{DIR_PORT}", "--daemon", processes.daemon_address(node), "--hold", "0"]
+    words += ["--measuring", f"{ADDRESS}:{DIR_PORT}", "--daemon", processes.daemon_address(node), "--hold", str(hours)]
     done = subprocess.run(words, capture_output=True, check=False, timeout=120)
+    told = done.stderr.decode("utf-8", "replace").strip()
     if done.returncode:
-        return f"{node.name}: {done.stderr.decode('utf-8', 'replace').strip()}"
+        return "not renewed", f"{node.name}: {told}"
+    word = "held" if " is held" in told else "measured"
     started.stop(f"{node.name}-daemon")
     processes.start_daemon(started, dirauth, node)
     if get(node.address, "/tor/status-vote/current/consensus") != before:
-        return f"{node.name}: the front has not the last consensus while the daemon is started anew"
-    return None
+        return word, f"{node.name}: the front has not the last consensus while the daemon is started anew"
+    return word, None

@@ -13,9 +13,13 @@ sys.path.insert(0, str(HERE))
 
 # pylint: disable=wrong-import-position
 import client
+import disagree
 import families
+import faults
 import nodes
 import periods
+import processes
+import seen
 
 FIRST, SECOND = "1" * 40, "2" * 40
 
@@ -84,6 +88,10 @@ class Periods(unittest.TestCase):
     def test_no_signature_at_all(self):
         why = periods.why_not_signed("consensus", b"consensus-method 33\n", self.signers, why_not)
         self.assertIsNotNone(why)
+
+    def test_some_may_lack_where_others_are_told(self):
+        text = signed("consensus-method 33\n", self.signers[1])
+        self.assertEqual(periods.wrong_and_lacking("consensus", text, self.signers, why_not), (None, ["auth1"]))
 
     def test_a_summary_counts_relays(self):
         told = periods.summary(b"consensus-method 33\nr a\nr b\nrx\n")
@@ -170,6 +178,13 @@ class Nodes(unittest.TestCase):
         lines = nodes.client_torrc(self.folder, node, [self.ours], [self.relay]).splitlines()
         self.assertIn(f"FallbackDir 10.77.1.1 orport=5001 id={'5' * 40}", lines)
 
+    def test_relays_know_an_authority_by_the_mirror_before_it(self):
+        self.ours.mirror = "10.77.4.1"
+        lines = nodes.relay_torrc(self.folder, self.relay, [self.ours]).splitlines()
+        self.assertIn(f"DirAuthority auth1 no-v2 v3ident={FIRST} 10.77.4.1:7001 {'3' * 40}", lines)
+        lines = nodes.authority_torrc(self.folder, self.tor, [self.ours], "0.4.9").splitlines()
+        self.assertIn(f"DirAuthority auth1 no-v2 v3ident={FIRST} 10.77.0.1:7001 {'3' * 40}", lines)
+
     def test_a_relay_is_given_its_families(self):
         self.assertNotIn("Family", nodes.relay_torrc(self.folder, self.relay, [self.ours]))
         self.relay.families, self.relay.listed = ["B", "A"], [FIRST, SECOND]
@@ -198,6 +213,117 @@ class Nodes(unittest.TestCase):
             self.assertIn(line, lines)
 
 
+def five():
+    """Three authorities of ours and two C tors."""
+    numbers, none = range(1, 6), pathlib.Path("/none")
+    return [nodes.Node(f"auth{n}", nodes.AUTHORITY % n, none, n, identity=str(n) * 40, is_ours=n < 4) for n in numbers]
+
+
+class Faults(unittest.TestCase):
+    """What is put in, and what is seen of it."""
+
+    def test_a_plan_has_seven_periods_and_its_steps_in_order(self):
+        plan = faults.plan(five())
+        self.assertEqual(len(plan), 7)
+        for each in plan:
+            moments = [moment for moment, _ in each.steps]
+            self.assertEqual(moments, sorted(moments))
+            # Behind what is renewed after the period before, and in front of what is renewed after this one.
+            self.assertTrue(all(-190 <= moment <= client.BEGINS_AT for moment in moments))
+        self.assertEqual([each.silences for each in plan], [False, False, True, False, False, False, False])
+        self.assertEqual([moment for moment, _ in plan[2].steps], [-70, -10])
+
+    def test_a_daemon_is_killed_and_started(self):
+        with tempfile.TemporaryDirectory() as folder:
+            started = processes.Processes(pathlib.Path(folder))
+            started.start("auth1-daemon", ["sleep", "60"])
+            network = faults.Network(None, folder, started, five(), [])
+            self.assertEqual(started.ended(), [])
+            faults.kill("auth1")(network)
+            self.assertEqual(started.ended(), [])
+            started.start("auth2", ["sh", "-c", "echo why; exit 3"])
+            started.started["auth2"].wait()
+            self.assertEqual(started.ended(), ["auth2 ended with status 3: why"])
+            self.assertRaisesRegex(SystemExit, "^network: auth2 ended with status 3: why$", started.must_live)
+            started.start("auth2", ["sh", "-c", "echo Raw assertion failed; echo trace; exit 4"])
+            started.started["auth2"].wait()
+            self.assertEqual(started.ended(), ["auth2 ended with status 4: Raw assertion failed"])
+
+    def test_two_votes_and_two_signatures_are_seen(self):
+        watch = seen.Watch(five())
+        watch.votes[300, "auth1"] |= {b"one", b"other"}
+        watch.votes[600, "auth1"] |= {b"one"}
+        watch.votes[300, "auth2"] |= {b"one"}
+        form = "additional-signature microdesc sha256 %s KEY\n-----BEGIN SIGNATURE-----\n%s\n-----END SIGNATURE-----\n"
+        self.assertEqual(watch.take((form % ("4" * 40, "AA") + form % ("5" * 40, "BB")).encode("ascii"), 300), 2)
+        self.assertEqual(list(watch.twice(300)), ["2 votes of auth1 are about"])
+        self.assertEqual(watch.take((form % ("4" * 40, "AC")).encode("ascii"), 300), 1)
+        told = ["2 votes of auth1 are about", "2 signatures of auth4 under consensus-microdesc are about"]
+        self.assertEqual(list(watch.twice(300)), told)
+        self.assertEqual(list(watch.twice(600)), [])
+
+    def test_the_signature_that_is_published_is_the_one_that_was_exchanged(self):
+        watch = seen.Watch(five())
+        key = periods.Signer("auth1", "1" * 40, b"first")
+        text = signed("consensus-method 33\n", key)
+        watch.take_published("consensus", text, 300)
+        signature = text.split(b"\n")[3].decode("ascii")
+        words = "directory-signature %s KEY\n-----BEGIN SIGNATURE-----\n%s\n-----END SIGNATURE-----\n"
+        watch.take((words % ("1" * 40, signature)).encode("ascii"), 300)
+        self.assertEqual(list(watch.twice(300)), [])
+        watch.take((words % ("1" * 40, "AA")).encode("ascii"), 300)
+        self.assertEqual(list(watch.twice(300)), ["2 signatures of auth1 under consensus are about"])
+
+    def test_the_moment_of_a_document(self):
+        self.assertEqual(seen.valid_after_of(b"x\nvalid-after 1970-01-01 00:05:00\n"), 300)
+        self.assertIsNone(seen.valid_after_of(b"x\nvalid-after 1970-01-41 00:05:00\n"))
+        self.assertIsNone(seen.valid_after_of(b""))
+
+    def test_a_relay_that_is_listed_runs(self):
+        relay = nodes.Node("relay1", "10.77.1.1", pathlib.Path("/none"), 1, fingerprint="00" * 19 + "01")
+        entry = b"r relay1 " + base64.b64encode(bytes(19) + b"\x01")[:-1] + b" 2026-01-01 00:00:00 10.77.1.1 5001 0\ns %s\n"
+        self.assertEqual(faults.not_listed(b"front\n" + entry % b"Fast Running V2Dir", [relay]), [])
+        self.assertEqual(faults.not_listed(b"front\n" + entry % b"Fast V2Dir", [relay]), ["relay1"])
+        self.assertEqual(faults.not_listed(b"front\n", [relay]), ["relay1"])
+
+
+class Disagree(unittest.TestCase):
+    """What authorities vote that do not vote alike."""
+
+    def test_no_version_has_a_majority(self):
+        told = {line for each in five() for line in disagree.lines_of(each, ["client-versions 1,2"])}
+        self.assertEqual(told, {f"client-versions {disagree.version_of(each, '1')}" for each in five()})
+        self.assertEqual(len(told), 5)
+
+    def test_the_first_two_vote_older_protocols(self):
+        line = "recommended-relay-protocols Cons=1-2 Link=4-5,7 Relay=2 Padding=1,2 Desc=1-5"
+        first, second, third, *_ = five()
+        self.assertEqual(disagree.lines_of(third, [line]), [line])
+        older = "recommended-relay-protocols Cons=1 Link=4-5 Relay=2 Padding=1 Desc=1-4"
+        self.assertEqual([disagree.lines_of(each, [line]) for each in (first, second)], [[older], [older]])
+
+    def test_a_tor_is_away_for_two_periods(self):
+        plan = disagree.plan(five())
+        self.assertEqual([each.touched for each in plan], [(), ("auth5",), ("auth5",), ()])
+        self.assertEqual([[moment for moment, _ in each.steps] for each in plan], [[], [-170], [45], []])
+
+
+class Mirrors(unittest.TestCase):
+    """What the mirrors gave."""
+
+    def test_answers_are_counted_by_their_kind(self):
+        told = (
+            "200 MISS /tor/status-vote/current/consensus-microdesc/AA+BB.z\n200 - /tor/status-vote/current/consensus\n"
+            "200 HIT /tor/micro/d/AA-BB\n200 HIT /tor/keys/all.z\n404 - /tor/x\n200 STALE /tor/micro/d/AA\n"
+        )
+        with tempfile.TemporaryDirectory() as folder:
+            for each in five()[:2]:
+                (pathlib.Path(folder) / f"{each.name}-mirrored").mkdir()
+                (pathlib.Path(folder) / f"{each.name}-mirrored" / "asked").write_text(told, "ascii")
+            counts = processes.given_by_mirrors(pathlib.Path(folder), five()[:2])
+        self.assertEqual(counts, {"consensus-microdesc": 2, "micro": 4, "keys": 2, "all else": 2})
+
+
 class Words(unittest.TestCase):
     """The command line."""
 
@@ -205,7 +331,10 @@ class Words(unittest.TestCase):
         program = [sys.executable, str(HERE / "network.py")]
         few, none, short = ["--ours", "1", "--tors", "2"], ["--periods", "0"], ["--delay", "19"]
         known = [*few, "--newest-method", "34"]
-        for words in (["/none"], ["/"], *([sys.executable, *each] for each in (few, none, short, known))):
+        alone = [["--faults", "--tors", "1"], ["--disagree", "--ours", "1"]]
+        mirrors = [["--mirrors", "/none"], ["--mirrors", "/"]]
+        wrong = [few, none, short, known, *alone, *mirrors]
+        for words in (["/none"], ["/"], *([sys.executable, *each] for each in wrong)):
             done = subprocess.run([*program, *words], capture_output=True, check=False, timeout=300)
             self.assertEqual(done.returncode, 1)
             self.assertRegex(done.stderr.decode("utf-8"), r"^network: [^\n]+\n$")

@@ -6,9 +6,9 @@
 # makes FOLDER, which must not be there yet, starts three of the program DIRAUTH on it, waits until each has published (six and a
 # half minutes at most, since a period has 300 seconds), fetches both flavours from each into FOLDER, and checks them with
 # test_network.py. COMMAND, where there is one, runs meanwhile with the three addresses as further words, and is waited for. With
-# RELAYS=N the authorities know N relays in place of 5. With MIRROR=DIRMIRROR that program runs beside them, asks all three, and has to
-# have what they published within a minute: the microdesc consensus, every microdescriptor that it names, and the certificates of its
-# signers (try/mirrored.py).
+# RELAYS=N the authorities know N relays in place of 5. With MIRROR=DIRMIRROR that program runs beside them, asks all three once a minute,
+# and has to have what they published within 75 seconds: the microdesc consensus, every microdescriptor that it names, and the
+# certificates of its signers (try/mirrored.py).
 # It ends with status 0 only where each authority published both flavours, all the same bytes with a right signature of each, where
 # none ended by itself, and where COMMAND succeeded. All that it started is ended behind it.
 set -u
@@ -16,7 +16,7 @@ set -u
 here=$(cd "$(dirname "$0")" && pwd)
 interval=300
 # The next consensus is at most so far away: an interval, and the time for votes and for signatures.
-longest=$((interval + 30 + 30))
+longest=$((interval + 40 + 40))
 
 if [ $# -lt 2 ]; then
     echo "usage: run.sh DIRAUTH FOLDER [COMMAND ...]" >&2
@@ -68,7 +68,7 @@ wait_for() {
 }
 
 python3 "$here/test_network.py" make --authorities 3 --relays "${RELAYS:-5}" \
-    --schedule $interval 30 30 "$folder" || exit 1
+    --schedule $interval 40 40 "$folder" || exit 1
 mapfile -t names < <(cut -d ' ' -f 1 "$folder/network")
 mapfile -t addresses < <(cut -d ' ' -f 3 "$folder/network")
 
@@ -104,7 +104,7 @@ done
 python3 "$here/test_network.py" check "$folder" || fail "what the authorities publish is not as it must be"
 
 if [ -n "${MIRROR:-}" ]; then
-    python3 "$here/try/mirrored.py" --within 60 $mirror_address "${addresses[@]}" || fail "the mirror has not what was published"
+    python3 "$here/try/mirrored.py" --within 75 $mirror_address "${addresses[@]}" || fail "the mirror has not what was published"
 fi
 
 if [ -n "$command_pid" ]; then

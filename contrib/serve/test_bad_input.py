@@ -35,6 +35,10 @@ class BadInput(unittest.TestCase):
         self.says("run.sh: /no/dirauth is no program", "run.sh", "/no/dirauth", f"{self.room}/new")
         self.says(f"test_network: {self.room}: File exists", "run.sh", PYTHON, self.room)
 
+    def test_uploads(self):
+        self.says("uploads: /no/dirauth is no program", "try/uploads.py", "/no/dirauth")
+        self.says(f"uploads: {self.room} is no program", "try/uploads.py", self.room)
+
     def test_who_does_not_answer(self):
         refused = f"{self.nobody}: Connection refused"
         self.says(f"broken: {refused}", "try/broken.py", HERE / "run.sh", self.nobody)
@@ -44,6 +48,7 @@ class BadInput(unittest.TestCase):
 
     def test_files_and_programs(self):
         self.says("usage: paths.sh DESCRIPTOR IP:PORT IP:PORT: a file, and two authorities", "try/paths.sh", self.room)
+        self.says("slow_peers: /no/dirmirror: No such file or directory", "try/slow_peers.py", "/no/dirmirror")
         self.says(f"periods: {self.room}: it has no auth*.station", "try/periods.py", PYTHON, self.room)
         pathlib.Path(self.room, "auth1.station").write_text("", "ascii")
         self.says(f"periods: {self.room}/auth1.station: it is no station input", "try/periods.py", PYTHON, self.room)

@@ -2,14 +2,14 @@
 """Authorities with real keys, for some periods, and a mirror: what each publishes, and what it takes.
 
     python3 ../key-service/example_stations.py --authorities 3 FOLDER
-    sed -i 's/^schedule .*/schedule 300 30 30/; s/^\\(authority .*\\) 192.0.2.\\(.\\):80$/\\1 127.0.0.1:1808\\2/' FOLDER/*.station
+    sed -i 's/^schedule .*/schedule 300 40 40/; s/^\\(authority .*\\) 192.0.2.\\(.\\):80$/\\1 127.0.0.1:1808\\2/' FOLDER/*.station
     python3 try/periods.py DIRAUTH FOLDER --periods 5
 
 starts DIRAUTH for each FOLDER/authN.station, with the key service that listens at /run/dirauth-keys, at the address that the
 stations have for it. A moment behind each valid-after it fetches both flavours from each authority, and looks whether all are the
 same bytes in front of the signatures, and whether each has one right RSA signature of each authority. It tells a line for each
 period and flavour, and at the end how much memory and time each authority took; status 0 only where all was right. With
-`--mirror DIRMIRROR` that program runs beside them and asks all of them: within a minute behind each valid-after it has to have the
+`--mirror DIRMIRROR` that program runs beside them and asks all of them: within 75 seconds behind each valid-after it has to have the
 new microdesc consensus, every microdescriptor that it names, and the certificates of its signers. Needs `python3-cryptography`. All
 that it started is ended behind it.
 """
@@ -37,8 +37,8 @@ FLAVOURS = {"consensus": "sha1", "consensus-microdesc": "sha256"}
 # How long behind the valid-after a consensus may be published.
 PUBLISHED_WITHIN = 10
 
-# How long behind it a mirror may have it.
-MIRRORED_WITHIN = 60
+# How long behind it a mirror may have it, which asks once a minute.
+MIRRORED_WITHIN = 75
 
 # Where the mirror listens.
 MIRROR_ADDRESS = "127.0.0.1:18090"
