@@ -6,7 +6,8 @@ use Rattle.dir_values.{specs.FlagSets.has_flag, proofs.Flags.has_flag-as_set}
 use Rattle.vote_terms.specs.Votes.{ReadVote}
 use Rattle.count_terms.specs.Counts.{over}
 use Rattle.compute_terms.specs.{declared.identity.EdPart.EdPart, Flags.known_flags, RelayFlags.{knowing_count, is_set}}
-use Rattle.compute_terms.specs.RelayFlags.{set_flags, middle_flags, adjusted_flags, router_flags, is_running_and_valid}
+use Rattle.compute_terms.specs.RelayFlags.{set_flags, flags_in_middle, adjusted_flags, router_flags}
+use Rattle.compute_terms.specs.RelayFlags.{is_running_and_valid}
 
 never : (n : ℕ) → over 0 n ≡ false
 never n = grind (arith, nat_tests)
@@ -22,14 +23,17 @@ not_kept : (p : List ℕ → Bool) (xs : List (List ℕ)) (flag : List ℕ) → 
 not_kept p [] flag out = refl
 not_kept p (x ∷ xs) flag out = kept_by _ _ p x xs flag out refl refl (not_kept p xs flag out)
 
-not_set : (votes : List ReadVote) (ed : EdPart) (flag : List ℕ) → bytes_eq flag (codes "NoEdConsensus") ≡ false → has_flag (set_flags votes ed []) flag ≡ false
-not_set votes ed flag other =
-    has_flag-as_set (filter (is_set votes ed []) (known_flags votes)) flag
-    ∙ not_kept (is_set votes ed []) (known_flags votes) flag (rw other (never (knowing_count votes flag)))
+not_set : (method : ℕ) (votes : List ReadVote) (ed : EdPart) (flag : List ℕ) → bytes_eq flag (codes "NoEdConsensus") ≡ false → has_flag (set_flags method votes ed []) flag ≡ false
+not_set method votes ed flag other =
+    has_flag-as_set (filter (is_set votes ed []) (known_flags method votes)) flag
+    ∙ not_kept (is_set votes ed []) (known_flags method votes) flag (rw other (never (knowing_count votes flag)))
 
 -- so it is not running and valid
-pub not_running : (votes : List ReadVote) (ed : EdPart) → is_running_and_valid (router_flags votes ed []) ≡ false
-not_running votes ed =
-    let set = set_flags votes ed [] in
-    let plain : adjusted_flags set ≡ set = ap (λ (b : Bool). cond b (middle_flags set) set) (not_set votes ed (codes "MiddleOnly") refl) in
-    ap is_running_and_valid plain ∙ ap (λ (b : Bool). b && has_flag set (codes "Valid")) (not_set votes ed (codes "Running") refl)
+pub not_running : (method : ℕ) (votes : List ReadVote) (ed : EdPart) → is_running_and_valid (router_flags method votes ed []) ≡ false
+not_running method votes ed =
+    let set = set_flags method votes ed [] in
+    let known = known_flags method votes in
+    let plain : adjusted_flags method known set ≡ set =
+    ap (λ (b : Bool). cond b (flags_in_middle method known set) set)
+    (not_set method votes ed (codes "MiddleOnly") refl) in
+    ap is_running_and_valid plain ∙ ap (λ (b : Bool). b && has_flag set (codes "Valid")) (not_set method votes ed (codes "Running") refl)

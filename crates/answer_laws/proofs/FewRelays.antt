@@ -79,7 +79,7 @@ names_within vote few =
     omega (arith, same, few)
 
 -- each relay has an identity of an entry
-relays_within : (roster method limit : ℕ) (votes : List ReadVote) → All HasFew votes
+relays_within : (roster method : ℕ) (limit : Option ℕ) (votes : List ReadVote) → All HasFew votes
     → length (routers roster method limit votes) ≤ 65535 * length votes
 relays_within roster method limit votes few =
     let all = flat_map names votes in

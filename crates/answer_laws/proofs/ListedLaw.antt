@@ -42,20 +42,20 @@ some_if false t g h = refl
 some_if true (Some t) g h = refl
 some_if true None g h = h refl
 
-running_has_chosen_tuple : (votes : List ReadVote) (ed : EdPart) (members : List Listing) → is_running_and_valid (router_flags votes ed members) ≡ true → is_some (chosen_tuple (entries_of members)) ≡ true
-running_has_chosen_tuple votes ed [] h = absurd (false≢true (sym (not_running votes ed) ∙ h))
-running_has_chosen_tuple votes ed (l ∷ members) h = one_is_chosen tuple_order tuple_total tuple_ties (tuple_of l.entry) (map tuple_of (entries_of members))
+running_has_chosen_tuple : (m : ℕ) (votes : List ReadVote) (ed : EdPart) (members : List Listing) → is_running_and_valid (router_flags m votes ed members) ≡ true → is_some (chosen_tuple (entries_of members)) ≡ true
+running_has_chosen_tuple m votes ed [] h = absurd (false≢true (sym (not_running m votes ed) ∙ h))
+running_has_chosen_tuple m votes ed (l ∷ members) h = one_is_chosen tuple_order tuple_total tuple_ties (tuple_of l.entry) (map tuple_of (entries_of members))
 
-some_by : (roster m limit : ℕ) (votes : List ReadVote) (rsa : Fingerprint) (o : Option EdPart)
+some_by : (roster m : ℕ) (limit : Option ℕ) (votes : List ReadVote) (rsa : Fingerprint) (o : Option EdPart)
     → is_some (option_and_then (λ ed. router_as m (cap_of limit votes) votes rsa ed (belonging_listings ed (listings votes rsa))) o)
-    ≡ option_map_or (λ ed. is_running_and_valid (router_flags votes ed (belonging_listings ed (listings votes rsa)))) o false
+    ≡ option_map_or (λ ed. is_running_and_valid (router_flags m votes ed (belonging_listings ed (listings votes rsa)))) o false
 some_by roster m limit votes rsa None = refl
 some_by roster m limit votes rsa (Some ed) =
     let members = belonging_listings ed (listings votes rsa) in
-    some_if (is_running_and_valid (router_flags votes ed members)) (chosen_tuple (entries_of members)) (routerline_of m (cap_of limit votes) rsa (router_flags votes ed members) (entries_of members)) (running_has_chosen_tuple votes ed members)
+    some_if (is_running_and_valid (router_flags m votes ed members)) (chosen_tuple (entries_of members)) (routerline_of m (cap_of limit votes) rsa (router_flags m votes ed members) (entries_of members)) (running_has_chosen_tuple m votes ed members)
 
 -- what is said of an identity is there exactly where it is listed
-some_is : (roster m limit : ℕ) (votes : List ReadVote) (rsa : Fingerprint) → is_some (router_of roster m limit votes rsa) ≡ is_listed_relay roster votes rsa
+some_is : (roster m : ℕ) (limit : Option ℕ) (votes : List ReadVote) (rsa : Fingerprint) → is_some (router_of roster m limit votes rsa) ≡ is_listed_relay m roster votes rsa
 some_is roster m limit votes rsa = some_by roster m limit votes rsa (included_part roster (eds_of (listings votes rsa)))
 
 named_if : (b : Bool) (t : Option Tuple) (g : Tuple → Routerline) (x : Fingerprint) → ((u : Tuple) → (g u).identity ≡ x) → (r : Routerline) → (if b then option_map g t else None) ≡ Some r → r.identity ≡ x
@@ -63,15 +63,15 @@ named_if true (Some t) g x h r e = ap (λ (l : Routerline). l.identity) (sym (sa
 named_if true None g x h r e = absurd cc
 named_if false t g x h r e = absurd cc
 
-named_by : (m limit : ℕ) (votes : List ReadVote) (rsa : Fingerprint) (o : Option EdPart) (r : Routerline)
+named_by : (m : ℕ) (limit : Option ℕ) (votes : List ReadVote) (rsa : Fingerprint) (o : Option EdPart) (r : Routerline)
     → option_and_then (λ ed. router_as m (cap_of limit votes) votes rsa ed (belonging_listings ed (listings votes rsa))) o ≡ Some r → r.identity ≡ rsa
 named_by m limit votes rsa None r e = absurd cc
 named_by m limit votes rsa (Some ed) r e =
     let members = belonging_listings ed (listings votes rsa) in
-    named_if (is_running_and_valid (router_flags votes ed members)) (chosen_tuple (entries_of members)) (routerline_of m (cap_of limit votes) rsa (router_flags votes ed members) (entries_of members)) rsa (λ u. refl) r e
+    named_if (is_running_and_valid (router_flags m votes ed members)) (chosen_tuple (entries_of members)) (routerline_of m (cap_of limit votes) rsa (router_flags m votes ed members) (entries_of members)) rsa (λ u. refl) r e
 
 -- and it names the identity
-named : (roster m limit : ℕ) (votes : List ReadVote) (rsa : Fingerprint) (r : Routerline) → router_of roster m limit votes rsa ≡ Some r → r.identity ≡ rsa
+named : (roster m : ℕ) (limit : Option ℕ) (votes : List ReadVote) (rsa : Fingerprint) (r : Routerline) → router_of roster m limit votes rsa ≡ Some r → r.identity ≡ rsa
 named roster m limit votes rsa r e = named_by m limit votes rsa (included_part roster (eds_of (listings votes rsa))) r e
 
 -- ---- of all identities
@@ -129,30 +129,30 @@ nothing_said (vote ∷ votes) rsa h =
     let here = none_found vote.says.entries rsa parts.0 in
     rw here (nothing_said votes rsa parts.1)
 
-unlisted_by : (votes : List ReadVote) (o : Option EdPart) → option_map_or (λ ed. is_running_and_valid (router_flags votes ed (belonging_listings ed []))) o false ≡ false
-unlisted_by votes None = refl
-unlisted_by votes (Some ed) = not_running votes ed
+unlisted_by : (m : ℕ) (votes : List ReadVote) (o : Option EdPart) → option_map_or (λ ed. is_running_and_valid (router_flags m votes ed (belonging_listings ed []))) o false ≡ false
+unlisted_by m votes None = refl
+unlisted_by m votes (Some ed) = not_running m votes ed
 
-unlisted : (roster : ℕ) (votes : List ReadVote) (rsa : Fingerprint) (said : List Listing) → said ≡ []
-    → option_map_or (λ ed. is_running_and_valid (router_flags votes ed (belonging_listings ed said))) (included_part roster (eds_of said)) false ≡ false
-unlisted roster votes rsa [] e = unlisted_by votes (included_part roster (eds_of []))
-unlisted roster votes rsa (l ∷ said) e = absurd cc
+unlisted : (m roster : ℕ) (votes : List ReadVote) (rsa : Fingerprint) (said : List Listing) → said ≡ []
+    → option_map_or (λ ed. is_running_and_valid (router_flags m votes ed (belonging_listings ed said))) (included_part roster (eds_of said)) false ≡ false
+unlisted m roster votes rsa [] e = unlisted_by m votes (included_part roster (eds_of []))
+unlisted m roster votes rsa (l ∷ said) e = absurd cc
 
 -- the limit of bandwidths of the consensus
-abbrev limit_of : ℕ → List ReadVote → ℕ
-limit_of roster votes = unmeasured_limit (listed_params roster votes)
+abbrev limit_of : Newest → ℕ → List ReadVote → Option ℕ
+limit_of newest roster votes = unmeasured_limit (chosen_method newest votes) (listed_params roster votes)
 
 law_by : (b : Bool) (newest : Newest) (roster : ℕ) (votes : List ReadVote) (rsa : Fingerprint)
     → has_flag (bytes_in votes) rsa.0 ≡ b
-    → (b && is_some (router_of roster (chosen_method newest votes) (limit_of roster votes) votes rsa))
-    ≡ is_listed_relay roster votes rsa
-law_by true newest roster votes rsa h = some_is roster (chosen_method newest votes) (limit_of roster votes) votes rsa
-law_by false newest roster votes rsa h = sym (unlisted roster votes rsa (listings votes rsa) (nothing_said votes rsa h))
+    → (b && is_some (router_of roster (chosen_method newest votes) (limit_of newest roster votes) votes rsa))
+    ≡ is_listed_relay (chosen_method newest votes) roster votes rsa
+law_by true newest roster votes rsa h = some_is roster (chosen_method newest votes) (limit_of newest roster votes) votes rsa
+law_by false newest roster votes rsa h = sym (unlisted (chosen_method newest votes) roster votes rsa (listings votes rsa) (nothing_said votes rsa h))
 
 pub listed_law : ListedRelaysAreListed
 listed_law newest roster votes rsa =
-    let f = router_of roster (chosen_method newest votes) (limit_of roster votes) votes in
+    let f = router_of roster (chosen_method newest votes) (limit_of newest roster votes) votes in
     let where_listed : among (identities_in votes) rsa ≡ has_flag (bytes_in votes) rsa.0 = among_map (as_set (bytes_in votes)) rsa ∙ has_flag-as_set (bytes_in votes) rsa.0 in
-    has f (named roster (chosen_method newest votes) (limit_of roster votes) votes) rsa (identities_in votes)
+    has f (named roster (chosen_method newest votes) (limit_of newest roster votes) votes) rsa (identities_in votes)
     ∙ ap (λ (b : Bool). b && is_some (f rsa)) where_listed
     ∙ law_by _ newest roster votes rsa refl

@@ -4,7 +4,7 @@ use Rattle.key_port.specs.Answers.{Rules}
 use Rattle.daemon_words.specs.declared.{command.Command.Command, serving.Serve.Serve}
 use Rattle.daemon_words.specs.declared.command.Command.TheVariants as command
 use Rattle.exit_status.specs.declared.status.Status.{Status}
-use Rattle.authority_daemon.specs.{Commands.{May, writes_text, Answerable}, Moments.{Moment, Telling}}
+use Rattle.authority_daemon.specs.{Commands.{May, Answerable}, Inside.is_gathered, Moments.{Moment, Telling}}
 use Rattle.authority_daemon.{specs.World.{AnswersWhatItMust, IsRun, Runs}, proofs.Completeness.completes}
 
 -- `serve` has no text that it must answer with
@@ -15,15 +15,15 @@ none_must rules wanted c now bytes is can =
     subst (λ (k : Command). Answerable rules k now bytes → ⊥) same (λ none. none) can
 
 module _ {S C V N G L : Type 0} (its : May N) (tells : Telling C G) (old new : Moment S C V N G L) (s : Status) where
-  -- a command that writes a text runs as such
-  pub runs : (c : Command) → writes_text c ≡ true → IsRun its (Some c) old new s → Runs its tells (Some c) old new s
-  runs (command.Compute wanted) writes is = is
-  runs (command.Check named) writes is = is
-  runs (command.Show named) writes is = is
-  runs (command.MakeVote wanted) writes is = is
-  runs (command.Rehearse wanted) writes is = is
-  runs (command.Report wanted) writes is = is
-  runs (command.Serve wanted) writes is = absurd (cc writes)
+  -- a command whose input is gathered runs as such
+  pub runs : (c : Command) → is_gathered c ≡ true → IsRun its (Some c) old new s → Runs its tells (Some c) old new s
+  runs (command.Compute wanted) gathers is = absurd (cc gathers)
+  runs (command.Check named) gathers is = is
+  runs (command.Show named) gathers is = is
+  runs (command.MakeVote wanted) gathers is = is
+  runs (command.Rehearse wanted) gathers is = absurd (cc gathers)
+  runs (command.Report wanted) gathers is = is
+  runs (command.Serve wanted) gathers is = absurd (cc gathers)
 
   -- and answers what it must
   pub run_completes : (given : Option Command) → Runs its tells given old new s

@@ -8,8 +8,8 @@ use Rattle.daemon_words.specs.declared.command.Command.TheVariants as command
 use Rattle.exit_status.specs.declared.status.Refusal.{Refusal}
 use Rattle.exit_status.specs.declared.status.Status.TheVariants as status
 use Rattle.daemon_words.specs.declared.stop.Stop.TheVariants as stop
-use Rattle.authority_daemon.specs.Runs.{Ends, HasEnded, Told, input_limit, input_of, is_gathered, reads_input}
-use Rattle.authority_daemon.specs.{Commands.May, Inside.IsAnswer, Moments.{Moment, TellsFaults, TellsFaultsOr}}
+use Rattle.authority_daemon.specs.{Runs.{Ends, HasEnded, Told, input_limit, input_of}, Commands.{May, uses}}
+use Rattle.authority_daemon.specs.{Inside.{IsAnswer, is_gathered}, Moments.{Moment, TellsFaults, TellsFaultsOr}}
 
 -- a refusal, as what a command returns
 abbrev as_stop : Refusal → Result (Vec ℕ) (Stop Refusal)
@@ -26,22 +26,22 @@ answered answers given command c input lent answer is names same told =
     (subst (λ (bytes : List ℕ). answers command bytes answer) same told)
 
 -- a command whose input is gathered reads it
-pub gathered : (c : Command) → is_gathered c ≡ true → reads_input c ≡ true
+pub gathered : (c : Command) → is_gathered c ≡ true → (uses (Some c)).reads ≡ true
 gathered (command.Compute wanted) is = absurd (cc is)
 gathered (command.Check named) is = is
 gathered (command.Show named) is = is
 gathered (command.MakeVote wanted) is = is
-gathered (command.Rehearse wanted) is = is
+gathered (command.Rehearse wanted) is = absurd (cc is)
 gathered (command.Report wanted) is = is
-gathered (command.Serve wanted) is = is
+gathered (command.Serve wanted) is = absurd (cc is)
 
 -- what a command that reads the input says of what the source has left, it says of its input
 pub over_input : (given : Option Command) (command : Command) (left : Option (List ℕ)) (P : Command → List ℕ → Type 0)
-    → Some command ≡ given → reads_input command ≡ true → ((c : Command) → given ≡ Some c → Told left (P c))
+    → Some command ≡ given → (uses (Some command)).reads ≡ true → ((c : Command) → given ≡ Some c → Told left (P c))
     → (c : Command) → given ≡ Some c → Told (input_of c left) (P c)
 over_input given command left P is reads told c names =
     let one : command ≡ c = cc (is, names) in
-    let same : reads_input c ≡ true = subst (λ (k : Command). reads_input k ≡ true) one reads in
+    let same : (uses (Some c)).reads ≡ true = subst (λ (k : Command). (uses (Some k)).reads ≡ true) one reads in
     subst (λ (b : Bool). Told (if b then left else Some []) (P c)) (sym same) (told c names)
 
 -- it refused the input
@@ -114,9 +114,9 @@ is_within (Some input) after bytes reads = reads.2
 
 -- and has ended, where the source is then left as it was
 pub has_ended : (left after now : Option (List ℕ)) (bytes : Vec ℕ) → now ≡ after
-    → ReadsAll left after input_limit (Ok bytes) → (c : Command) → OnTrue (reads_input c) (HasEnded left now)
-has_ended None after now bytes same reads c = on_true (reads_input c) (Unit {0}) tt
-has_ended (Some input) after now bytes same reads c = on_true (reads_input c) (now ≡ Some []) (same ∙ reads.1)
+    → ReadsAll left after input_limit (Ok bytes) → HasEnded left now
+has_ended None after now bytes same reads = tt
+has_ended (Some input) after now bytes same reads = same ∙ reads.1
 
 -- a fault that is told exactly is told
 pub told_at_once : (before now : ℕ) (ends_so ends_before : Type 0) → TellsFaults before now ends_so

@@ -120,7 +120,7 @@ module _ {S C V N G L : Type 0} (its : May N) (tells : Telling C G) (wanted : Se
     served = tt;
     unasked = tt;
     limit = is_within old.left after bytes reads;
-    read = has_ended old.left after new.left bytes left reads (command.Serve wanted);
+    read = has_ended old.left after new.left bytes left reads;
     stops = tt;
     source = quiet status.Done (λ e. cc e);
     sink = record {
@@ -137,7 +137,7 @@ module _ {S C V N G L : Type 0} (its : May N) (tells : Telling C G) (wanted : Se
     served = tt;
     unasked = tt;
     limit = is_within old.left after bytes reads;
-    read = has_ended old.left after new.left bytes left reads (command.Serve wanted);
+    read = has_ended old.left after new.left bytes left reads;
     stops = tt;
     source = quiet status.WriteFault (λ e. cc e);
     sink = record { cause = λ e. at.is.serves.1.such.2; told = λ more. inl refl };
@@ -153,7 +153,7 @@ module _ {S C V N G L : Type 0} (its : May N) (tells : Telling C G) (wanted : Se
     served = tt;
     unasked = tt;
     limit = is_within old.left after bytes reads;
-    read = has_ended old.left after new.left bytes left reads (command.Serve wanted);
+    read = has_ended old.left after new.left bytes left reads;
     stops = tt;
     source = quiet (status.Refused refusal.Gate) (λ e. cc e);
     sink = record { cause = λ e. absurd (cc e); told = λ more. inr refl };
@@ -191,7 +191,7 @@ module _ {S C V N G L : Type 0} (its : May N) (tells : Telling C G) (wanted : Se
     served = serves_none own none;
     unasked = tt;
     limit = is_within old.left after bytes reads;
-    read = has_ended old.left after new.left bytes left reads (command.Serve wanted);
+    read = has_ended old.left after new.left bytes left reads;
     stops = tt;
     source = quiet (status.Refused (by_serve own)) (λ e. cc e);
     sink = record { cause = λ e. absurd (cc e); told = λ more. absurd (omega (arith, more, unwritten)) };

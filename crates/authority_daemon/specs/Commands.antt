@@ -53,55 +53,23 @@ Answers its (command.Report wanted) now bytes old new answer =
     AnsweredAs by_report (ReportAnswers its.rules wanted bytes) answer
 Answers its (command.Serve wanted) now bytes old new answer = ⊥
 
--- whether a command writes a text that it makes of its input: each but `serve`, of which `IsServed` says what it does
-abbrev pub writes_text : Command → Bool
-writes_text (command.Serve wanted) = false
-writes_text _ = true
+-- What a command uses: whether it reads the input, has signatures verified, has something signed, and asks a clock.
+pub record Uses : Type 0 where
+  pub reads : Bool
+  pub verifies : Bool
+  pub signs : Bool
+  pub clock : Bool
 
--- whether a command verifies signatures, a line for each command
-abbrev pub verifies : Command → Bool
-verifies (command.Compute wanted) = true
-verifies (command.Check named) = false
-verifies (command.Show named) = false
-verifies (command.MakeVote wanted) = true
-verifies (command.Rehearse wanted) = false
-verifies (command.Report wanted) = true
-verifies (command.Serve wanted) = true
-
--- whether words that give this command, or none, have signatures verified
-abbrev pub verifies_if : Option Command → Bool
-verifies_if None = false
-verifies_if (Some given) = verifies given
-
--- whether a command has something signed, a line for each command
-abbrev pub signs : Command → Bool
-signs (command.Compute wanted) = false
-signs (command.Check kind) = false
-signs (command.Show kind) = false
-signs (command.MakeVote wanted) = true
-signs (command.Rehearse wanted) = false
-signs (command.Report wanted) = false
-signs (command.Serve wanted) = true
-
--- whether words that give this command, or none, have something signed
-abbrev pub signs_if : Option Command → Bool
-signs_if None = false
-signs_if (Some given) = signs given
-
--- whether a command asks a clock, a line for each command
-abbrev pub asks_clock : Command → Bool
-asks_clock (command.Compute wanted) = false
-asks_clock (command.Check kind) = false
-asks_clock (command.Show kind) = false
-asks_clock (command.MakeVote wanted) = true
-asks_clock (command.Rehearse wanted) = false
-asks_clock (command.Report wanted) = false
-asks_clock (command.Serve wanted) = true
-
--- whether words that give this command, or none, ask a clock
-abbrev pub asks_clock_if : Option Command → Bool
-asks_clock_if None = false
-asks_clock_if (Some given) = asks_clock given
+-- what words use that give this command, or none: a line for each command
+abbrev pub uses : Option Command → Uses
+uses (Some (command.Compute wanted)) = record { reads = true; verifies = true; signs = false; clock = false }
+uses (Some (command.Check named)) = record { reads = true; verifies = false; signs = false; clock = false }
+uses (Some (command.Show named)) = record { reads = true; verifies = false; signs = false; clock = false }
+uses (Some (command.MakeVote wanted)) = record { reads = true; verifies = true; signs = true; clock = true }
+uses (Some (command.Rehearse wanted)) = record { reads = false; verifies = false; signs = false; clock = false }
+uses (Some (command.Report wanted)) = record { reads = true; verifies = true; signs = false; clock = false }
+uses (Some (command.Serve wanted)) = record { reads = true; verifies = true; signs = true; clock = true }
+uses None = record { reads = false; verifies = false; signs = false; clock = false }
 
 -- what `make-vote` refuses before it has a signature verified: what its station is given, and the file in front of it
 abbrev pub IsOfStation : Refusal → Type 0

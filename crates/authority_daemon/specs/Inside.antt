@@ -1,19 +1,20 @@
 -- What the private functions of this crate say.
-use Rattle.std.specs.{Prelude.{◌≡◌, ℕ, ◌+◌, ◌<◌, List, drop, Option, Result, Ok, Err, IfErr, false}, Global.Vec}
-use Rattle.std.specs.Bool.{OnTrue}
+use Rattle.std.specs.Prelude.{◌≡◌, ℕ, ◌+◌, ◌<◌, List, drop, Option, Some, Result, Ok, Err, IfErr, Bool, true, false}
+use Rattle.std.specs.{Global.Vec, Bool.OnTrue}
 use Rattle.dir_bytes.specs.Causes.{Counts, Rose}
 use Rattle.key_port.specs.Answers.{Rules}
 use Rattle.compute_command.specs.{declared.halt.Halt.Halt, Arriving.{ComputesFrom, StopsReading, TellsVerifier}}
 use Rattle.compute_command.specs.declared.halt.Halt.TheVariants as halt
 use Rattle.compute_command.specs.declared.refusal.ComputeRefusal.TheVariants as compute
 use Rattle.daemon_words.specs.{declared.{command.{Command.Command, Compute.Compute}, stop.Stop.Stop}, Stops.Answered}
+use Rattle.daemon_words.specs.declared.command.Command.TheVariants as command
 use Rattle.exit_status.specs.{declared.status.{Status.Status, Refusal.Refusal}, Told.by_compute}
 use Rattle.exit_status.specs.declared.status.Status.TheVariants as status
 use Rattle.exit_status.specs.declared.status.Refusal.TheVariants as refusal
 use Rattle.daemon_words.specs.declared.stop.Stop.TheVariants as stop
 use Rattle.serve_command.specs.Passed.{Outside}
-use Rattle.authority_daemon.specs.Commands.{Answers, IsBeforeSigner, IsEarly, May, asks_clock, signs, verifies}
-use Rattle.authority_daemon.specs.{Moments.{Moment, TellsFaults}, Runs.input_limit}
+use Rattle.authority_daemon.specs.{Commands.{Answers, IsBeforeSigner, IsEarly, May, uses}, Moments.Moment}
+use Rattle.authority_daemon.specs.{Moments.TellsFaults, Runs.input_limit}
 
 -- The source, the two sinks, the gates and the link are as they were.
 pub record LeavesStreams {S K E C V N G L : Type 0} (old new : Outside S K E C V N G L) : Type 0 where
@@ -67,6 +68,13 @@ IsAnswered (Ok text) = Unit {0}
 IsAnswered (Err (stop.Refused why)) = Unit {0}
 IsAnswered (Err stop.Memory) = ⊥
 
+-- whether a command reads its input whole before it answers it with a text
+abbrev pub is_gathered : Command → Bool
+is_gathered (command.Compute wanted) = false
+is_gathered (command.Rehearse wanted) = false
+is_gathered (command.Serve wanted) = false
+is_gathered given = true
+
 -- What a command answers to an input, and what it asks of what stands outside.
 pub record IsAnswer {S C V N G L : Type 0} (its : May N) (c : Command) (bytes : List ℕ) (old new : Moment S C V N G L)
     (result : Result (Vec ℕ) (Stop Refusal)) : Type 0 where
@@ -74,10 +82,10 @@ pub record IsAnswer {S C V N G L : Type 0} (its : May N) (c : Command) (bytes : 
   pub verifier : TellsFaults old.verifier_faults new.verifier_faults (result ≡ Err (stop.Refused refusal.Verifier))
   pub signer : TellsFaults old.signer_faults new.signer_faults (result ≡ Err (stop.Refused refusal.Signer))
   pub others : drop 1 new.verifiers ≡ drop 1 old.verifiers
-  pub unasked : verifies c ≡ false → new.verifiers ≡ old.verifiers
+  pub unasked : (uses (Some c)).verifies ≡ false → new.verifiers ≡ old.verifiers
   pub unchecked : IfErr result (λ why. OfRefusal (IsEarly c) why → new.verifiers ≡ old.verifiers)
-  pub timed : IsAnswered result → OnTrue (asks_clock c) (Counts old.asks new.asks)
+  pub timed : IsAnswered result → OnTrue (uses (Some c)).clock (Counts old.asks new.asks)
   pub other_clocks : drop 1 new.clocks ≡ drop 1 old.clocks
-  pub untimed : asks_clock c ≡ false → new.clocks ≡ old.clocks
-  pub unsigned : signs c ≡ false → new.signer ≡ old.signer
+  pub untimed : (uses (Some c)).clock ≡ false → new.clocks ≡ old.clocks
+  pub unsigned : (uses (Some c)).signs ≡ false → new.signer ≡ old.signer
   pub unasked_signer : IfErr result (λ why. OfRefusal IsBeforeSigner why → new.signer ≡ old.signer)

@@ -10,7 +10,7 @@ use Rattle.serve_command.specs.{Passed.{Served, SomeRose}, Serving.HasServed, An
 use Rattle.serve_command.specs.{Starting.RefusesToServe, declared.refusal.ServeRefusal.ServeRefusal}
 use Rattle.serve_command.specs.Passed.TheVariants as served
 use Rattle.authority_daemon.specs.{Commands.May, Moments.{Moment, Telling, TellsFaults, TellsFaultsOr}, Runs.KeepsLimit}
-use Rattle.authority_daemon.specs.Runs.{KnowsWords, ReadsThrough, StopsReading, Told}
+use Rattle.authority_daemon.specs.Runs.{HasEnded, KnowsWords, OnAnswer, StopsReading, Told}
 
 -- how a run ends in which an authority served
 abbrev pub status_of : Served → Status
@@ -103,7 +103,7 @@ module _ {S C V N G L : Type 0} (its : May N) (tells : Telling C G) (wanted : Se
     -- an input past its limit is said to be so, and no other is
     pub limit : Told old.left (λ bytes. KeepsLimit bytes s)
     -- the input is read to its end, also where it is refused
-    pub read : ReadsThrough (command.Serve wanted) old.left new.left s
+    pub read : OnAnswer s (HasEnded old.left new.left)
     -- of an input that is too long, or that could not be read, at most the limit and one piece were taken
     pub stops : StopsReading old.left new.left s
     -- the source fails exactly where the status says so

@@ -1,14 +1,13 @@
 -- What a whole run says of the words and of what stands outside.
-use Rattle.std.specs.Prelude.{◌≡◌, drop, Option, Some, false}
-use Rattle.dir_bytes.specs.Causes.{Rose}
+use Rattle.std.specs.{Prelude.{◌≡◌, drop, Option, Some, false}, Bool.OnTrue}
+use Rattle.dir_bytes.specs.Causes.{Counts, Rose}
 use Rattle.key_port.specs.Answers.{Rules}
 use Rattle.daemon_words.specs.declared.command.Command.{Command}
 use Rattle.daemon_words.specs.declared.command.Command.TheVariants as command
-use Rattle.authority_daemon.specs.{Served.IsServed, Commands.{Answers, May, asks_clock_if, signs_if, verifies_if}}
-use Rattle.authority_daemon.specs.Runs.{HasAsked, Ends, IsBeforeChecks, IsBeforeSigning, IsBeforeVotes, IsDoneOrMemory}
-use Rattle.authority_daemon.specs.Runs.{KeepsLimit, KnowsWords, MustAnswer, ReadsThrough, StopsReading, Told}
-use Rattle.authority_daemon.specs.{Runs.{WritesOnlyAnswers, input_of, reads_input_if}, Moments.{Moment, Telling}}
-use Rattle.authority_daemon.specs.Moments.{TellsFaults, TellsFaultsOr}
+use Rattle.authority_daemon.specs.{Served.IsServed, Commands.{Answers, May, uses}, Runs.{HasEnded, Ends}}
+use Rattle.authority_daemon.specs.Runs.{IsBeforeChecks, IsBeforeSigning, IsBeforeVotes, IsDoneOrMemory, KeepsLimit}
+use Rattle.authority_daemon.specs.Runs.{KnowsWords, MustAnswer, OnAnswer, StopsReading, Told, WritesOnlyAnswers}
+use Rattle.authority_daemon.specs.{Runs.input_of, Moments.{Moment, Telling, TellsFaults, TellsFaultsOr}}
 use Rattle.exit_status.specs.declared.status.Refusal.TheVariants as refusal
 use Rattle.exit_status.specs.declared.status.Status.{Status}
 use Rattle.exit_status.specs.declared.status.Status.TheVariants as status
@@ -28,11 +27,11 @@ pub record IsRun {S C V N G L : Type 0} (its : May N) (given : Option Command) (
   -- an input past its limit is said to be so, and no other is
   pub limit : (c : Command) → given ≡ Some c → Told (input_of c old.left) (λ bytes. KeepsLimit bytes s)
   -- the input is read to its end, also where it is refused
-  pub read : (c : Command) → given ≡ Some c → ReadsThrough c old.left new.left s
+  pub read : OnAnswer s (OnTrue (uses given).reads (HasEnded old.left new.left))
   -- of an input that is too long, or that could not be read, at most the limit and one piece were taken
   pub stops : StopsReading old.left new.left s
   -- words that give no command, and a command that reads no input, leave the source as it was
-  pub unread : reads_input_if given ≡ false → new.source ≡ old.source
+  pub unread : (uses given).reads ≡ false → new.source ≡ old.source
   -- The source, the sink, the first verifier and the signer fail exactly where the status says so; but that a verifier that
   -- failed at a vote is not told where the status stands before it.
   pub source : TellsFaults old.read_faults new.read_faults (s ≡ status.ReadFault)
@@ -43,16 +42,16 @@ pub record IsRun {S C V N G L : Type 0} (its : May N) (given : Option Command) (
   -- the first verifier alone is asked
   pub others : drop 1 new.verifiers ≡ drop 1 old.verifiers
   -- words that give no command, and a command that verifies nothing, ask none
-  pub unasked : verifies_if given ≡ false → new.verifiers ≡ old.verifiers
+  pub unasked : (uses given).verifies ≡ false → new.verifiers ≡ old.verifiers
   -- none is asked where the words are refused; nor, but with votes that are checked while they are read, where the input is, or
   -- what is read before anything is checked
   pub unchecked : IsBeforeChecks given s → new.verifiers ≡ old.verifiers
   -- a command that asks a clock asks the first alone; any other asks none
-  pub timed : HasAsked given old.asks new.asks s
+  pub timed : OnAnswer s (OnTrue (uses given).clock (Counts old.asks new.asks))
   pub other_clocks : drop 1 new.clocks ≡ drop 1 old.clocks
-  pub untimed : asks_clock_if given ≡ false → new.clocks ≡ old.clocks
+  pub untimed : (uses given).clock ≡ false → new.clocks ≡ old.clocks
   -- a command that has nothing signed leaves the signer as it was, and so does one that refuses something before
-  pub unsigned : signs_if given ≡ false → new.signer ≡ old.signer
+  pub unsigned : (uses given).signs ≡ false → new.signer ≡ old.signer
   pub unasked_signer : IsBeforeSigning s → new.signer ≡ old.signer
   -- no gate and no other authority is asked
   pub ungated : new.gates ≡ old.gates

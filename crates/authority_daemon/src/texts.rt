@@ -1,8 +1,7 @@
 // The commands that write a text, over what stands outside.
 ghost use Rattle.std.specs.Prelude.{◌≡◌, ◌<◌, ◌^◌, Some, true, length, vec_len};
 ghost use Rattle.daemon_words.specs.Rehearsals.{IsWithinBounds};
-ghost use Rattle.authority_daemon.specs.{Commands.{may, writes_text}, Inside.{IsAnswer, LeavesStreams}};
-ghost use Rattle.authority_daemon.specs.{Runs.is_gathered, World.IsRun};
+ghost use Rattle.authority_daemon.specs.{Commands.may, Inside.{IsAnswer, LeavesStreams, is_gathered}, World.IsRun};
 
 use crate::outside::Stands;
 use crate::telling::{check, health, show, vote};
@@ -58,7 +57,6 @@ pub(crate) fn run_over<
     requires clocks { 0 < vec_len outside.old.clocks }
     requires verifiers { 0 < vec_len outside.old.verifiers }
     requires input { is_gathered command.now ≡ true }
-    requires text { writes_text command.now ≡ true }
     ensures run { let at = ⟦<Outside<S, K, E, C, V, N, G, L> as Stands<S, C, V, N, G, L>>⟧.at in
         IsRun (may V.may_accept V.may_refuse N.may_give N.steps) (Some command.now)
         (at outside.old) (at outside.new) result }
@@ -99,7 +97,6 @@ fn answer<
     requires clocks { 0 < vec_len outside.old.clocks }
     requires verifiers { 0 < vec_len outside.old.verifiers }
     requires input { is_gathered command.now ≡ true }
-    requires text { writes_text command.now ≡ true }
     requires length { vec_len bytes < 2 ^ 61 }
     ensures answer { let at = ⟦<Outside<S, K, E, C, V, N, G, L> as Stands<S, C, V, N, G, L>>⟧.at in
         IsAnswer (may V.may_accept V.may_refuse N.may_give N.steps) command.now bytes.items
@@ -129,7 +126,6 @@ fn answer_to<
     requires clocks { 0 < vec_len outside.old.clocks }
     requires verifiers { 0 < vec_len outside.old.verifiers }
     requires input { is_gathered command.now ≡ true }
-    requires text { writes_text command.now ≡ true }
     requires length { length bytes.now < 2 ^ 61 }
     ensures answer { let at = ⟦<Outside<S, K, E, C, V, N, G, L> as Stands<S, C, V, N, G, L>>⟧.at in
         IsAnswer (may V.may_accept V.may_refuse N.may_give N.steps) command.now bytes.now

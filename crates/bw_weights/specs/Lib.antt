@@ -1,5 +1,6 @@
 pub mod Balance
 pub mod Cases
+pub mod Checks
 pub mod Fractions
 pub mod Ranges
 pub mod Sums

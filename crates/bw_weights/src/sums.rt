@@ -15,9 +15,10 @@ impl Sums {
     ghost use Rattle.bw_weights.specs.Sums as sums;
 
     /// The bandwidth of all classes.
-    fn total(&self) -> u64
+    pub fn total(&self) -> u64
         requires { sums.AreInRange self.now }
-        ensures { result ≡ sums.total_of self.now }
+        ensures value { result ≡ sums.total_of self.now }
+        ensures most { result ≤ 2 ^ 56 }
     {
         self.g + self.m + self.e + self.d
     }

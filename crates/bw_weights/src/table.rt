@@ -62,7 +62,7 @@ fn exits_scarce(sums: &Sums, scale: u32) -> Shares
 }
 
 /// The weights of the case that the sums are in.
-fn shares_of(sums: &Sums, scale: u32) -> Shares
+pub fn shares_of(sums: &Sums, scale: u32) -> Shares
     requires { AreInRange sums.now }
     ensures { result ≡ table.shares_of sums.now scale }
 {

@@ -1,9 +1,10 @@
 -- At most one shared random value is agreed on a line, and it is the one that the consensus says.
 use Rattle.std.proofs.Common.{◌≡◌, ℕ, ◌+◌, ◌<◌, ◌≤◌, Bool, true, false, List, [], ◌∷◌, length, Option, Some, None, cond}
 use Rattle.std.proofs.{Common.{refl, sym, ap, subst, ◌∙◌, arith}, lemmas.{List.Sums.length-filter, Bool.and_parts}}
-use Rattle.std.{proofs.lemmas.Bool.{eqb-true, false≢true, ltb-true}, specs.Prelude.{◌*◌, ◌==◌, ◌||◌, filter}}
+use Rattle.std.{proofs.lemmas.Bool.{eqb-true, false≢true, ltb-true}, specs.Prelude.{◌*◌, ◌==◌, ◌||◌, filter, nat_le}}
 use Rattle.std.specs.{Prelude.if◌then◌else◌, Cmp.Lexicographic.bytes_decides, List.{cons_option, filter_map, find}}
 use Rattle.std.specs.{List.list_any, Str.bytes_eq}
+use Rattle.count_terms.specs.Counts.{over}
 use Rattle.value_groups.specs.{Values.same_random, declared.line.RandomLine.RandomLine}
 use Rattle.value_groups.specs.declared.value.SharedRandom.{SharedRandom}
 use Rattle.vote_terms.specs.Votes.{ReadVote}
@@ -28,10 +29,12 @@ one_said a b None f g = absurd (false≢true f)
 one_said a b (Some other) f g = one_value a other f ∙ sym (one_value b other g)
 
 pub alone : RandomsAreAlone
-alone line roster votes a b within f g =
+alone line roster least votes a b within f g =
+    let most = λ (x : SharedRandom) (its : is_agreed line roster least votes x ≡ true).
+    (and_parts (over (votes_for line votes x) roster) (nat_le least (votes_for line votes x)) its).0 in
     let both =
     majorities_meet roster votes (λ (vote : ReadVote). is_random a (random_of line vote))
-    (λ (vote : ReadVote). is_random b (random_of line vote)) within f g in
+    (λ (vote : ReadVote). is_random b (random_of line vote)) within (most a f) (most b g) in
     one_said a b (random_of line both.0) both.1 both.2
 
 -- ---- it is listed
@@ -98,13 +101,13 @@ said_in line random (vote ∷ votes) some = by (random_of line vote) some (said_
     by (Some r) some more = one_more (same_random random r) some more
 
 pub listed : AgreedRandomsAreListed
-listed line roster votes random within = (
+listed line roster least votes random within = (
   λ is.
-      one_found (is_agreed line roster votes) random is (λ r its. alone line roster votes r random within its is)
+      one_found (is_agreed line roster least votes) random is (λ r its. alone line roster least votes r random within its is)
       (filter_map (random_of line) votes) (said_in line random votes
       (some_have (length (having line random votes)) (votes_for line votes random)
-      (length-filter (λ (vote : ReadVote). is_random random (random_of line vote)) votes) (ltb-true _ _ is))),
-  λ is. found_passes (is_agreed line roster votes) (filter_map (random_of line) votes) random is,
+      (length-filter (λ (vote : ReadVote). is_random random (random_of line vote)) votes) (ltb-true _ _ (and_parts (over (votes_for line votes random) roster) (nat_le least (votes_for line votes random)) is).0))),
+  λ is. found_passes (is_agreed line roster least votes) (filter_map (random_of line) votes) random is,
 )
   where
     some_have : (have count : ℕ) → have ≡ count → roster < 2 * count → 0 < have

@@ -39,6 +39,6 @@ relay_bandwidth most entries =
 abbrev pub measures : ReadVote → Bool
 measures vote = list_any (λ (e : EntryFacts). is_some (measured_of e)) vote.says.entries
 
--- what a bandwidth that is not measured may be at most: this limit, where enough votes measure
-abbrev pub cap_of : ℕ → List ReadVote → Option ℕ
-cap_of limit votes = if nat_le measures_needed (count_by measures votes) then Some limit else None
+-- what a bandwidth that is not measured may be at most: this limit, if there is one, where enough votes measure
+abbrev pub cap_of : Option ℕ → List ReadVote → Option ℕ
+cap_of limit votes = if nat_le measures_needed (count_by measures votes) then limit else None

@@ -1,9 +1,11 @@
 -- The flags of a relay (dir-spec, "Computing a consensus from a set of votes").
-pub use Rattle.field_votes.specs.Flags.{suits_middle, middle_flags, adjusted_flags}
-use Rattle.std.specs.{Prelude.{ℕ, Bool, true, false, ◌&&◌, List, count_by, filter, codes, if◌then◌else◌}, Str.bytes_eq}
+pub use Rattle.field_votes.specs.Flags.{suits_middle, middle_flags}
+use Rattle.std.specs.Prelude.{ℕ, Bool, true, false, not, ◌&&◌, List, count_by, filter, codes, if◌then◌else◌}
+use Rattle.std.specs.Str.{bytes_eq}
 use Rattle.dir_values.specs.FlagSets.{has_flag, as_set}
 use Rattle.vote_terms.specs.Votes.{ReadVote}
 use Rattle.count_terms.specs.Counts.{over}
+use Rattle.consensus_terms.specs.Methods.{is_34_or_later}
 use Rattle.compute_terms.specs.{declared.identity.EdPart.EdPart, Flags.known_flags, Listings.Listing}
 use Rattle.compute_terms.specs.declared.identity.EdPart.TheVariants as part
 
@@ -37,12 +39,24 @@ is_set votes ed members flag =
     else over (setting_count members flag) (knowing_count votes flag)
 
 -- the flags that are set
-abbrev pub set_flags : List ReadVote → EdPart → List Listing → List (List ℕ)
-set_flags votes ed members = as_set (filter (is_set votes ed members) (known_flags votes))
+abbrev pub set_flags : ℕ → List ReadVote → EdPart → List Listing → List (List ℕ)
+set_flags method votes ed members = as_set (filter (is_set votes ed members) (known_flags method votes))
 
--- the flags of an identity with this part, to which these listings belong
-abbrev pub router_flags : List ReadVote → EdPart → List Listing → List (List ℕ)
-router_flags votes ed members = adjusted_flags (set_flags votes ed members)
+-- the flags of a relay that may stand only in the middle of a path, in a consensus that knows these: with `BadExit`, but from
+-- 34 on only where that is known
+abbrev pub flags_in_middle : ℕ → List (List ℕ) → List (List ℕ) → List (List ℕ)
+flags_in_middle method known flags =
+    if is_34_or_later method && not (has_flag known (codes "BadExit")) then as_set (filter suits_middle flags)
+    else middle_flags flags
+
+-- the flags as such a consensus lists them: those of a relay with `MiddleOnly` are of one that may stand only in the middle
+abbrev pub adjusted_flags : ℕ → List (List ℕ) → List (List ℕ) → List (List ℕ)
+adjusted_flags method known flags =
+    if has_flag flags (codes "MiddleOnly") then flags_in_middle method known flags else flags
+
+-- the flags by this method of an identity with this part, to which these listings belong
+abbrev pub router_flags : ℕ → List ReadVote → EdPart → List Listing → List (List ℕ)
+router_flags method votes ed members = adjusted_flags method (known_flags method votes) (set_flags method votes ed members)
 
 -- whether a relay with these flags is running and valid, and so is listed
 abbrev pub is_running_and_valid : List (List ℕ) → Bool

@@ -20,7 +20,7 @@ routerline_of method most rsa flags entries tuple = record {
   ip = tuple.ip;
   or_port = tuple.or_port;
   dir_port = tuple.dir_port;
-  a = chosen_address tuple entries;
+  a = chosen_address method tuple entries;
   m = chosen_micro method tuple.digest entries;
   flags = flags;
   v = chosen_version entries;
@@ -42,7 +42,7 @@ router_with method most rsa flags entries =
 -- what is said of an identity with this part, to which these listings belong
 abbrev pub router_as : ℕ → Option ℕ → List ReadVote → Fingerprint → EdPart → List Listing → Option Routerline
 router_as method most votes rsa ed members =
-    router_with method most rsa (router_flags votes ed members) (entries_of members)
+    router_with method most rsa (router_flags method votes ed members) (entries_of members)
 
 -- what is said of an RSA identity of which the votes say this
 abbrev pub router_from : ℕ → ℕ → Option ℕ → List ReadVote → Fingerprint → List Listing → Option Routerline
@@ -51,9 +51,9 @@ router_from roster method most votes rsa said =
     (included_part roster (eds_of said))
 
 -- what is said of an RSA identity, where it is included and listed
-abbrev pub router_of : ℕ → ℕ → ℕ → List ReadVote → Fingerprint → Option Routerline
+abbrev pub router_of : ℕ → ℕ → Option ℕ → List ReadVote → Fingerprint → Option Routerline
 router_of roster method limit votes rsa = router_from roster method (cap_of limit votes) votes rsa (listings votes rsa)
 
 -- the listed relays, ascending by RSA identity
-abbrev pub routers : ℕ → ℕ → ℕ → List ReadVote → List Routerline
+abbrev pub routers : ℕ → ℕ → Option ℕ → List ReadVote → List Routerline
 routers roster method limit votes = filter_map (router_of roster method limit votes) (identities_in votes)

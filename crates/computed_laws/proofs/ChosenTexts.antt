@@ -46,14 +46,14 @@ entries_fill votes all =
     (λ vote is. is.entries) votes all
 
 -- those of relays
-pub relays_fill : (roster method limit : ℕ) (votes : List ReadVote) → AllFillLines votes
+pub relays_fill : (roster method : ℕ) (limit : Option ℕ) (votes : List ReadVote) → AllFillLines votes
     → All HasTexts (routers roster method limit votes)
 relays_fill roster method limit votes all =
     All-filter_map HasTexts (router_of roster method limit votes) (identities_in votes)
     (everywhere (λ (rsa : Fingerprint). IfSome (router_of roster method limit votes rsa) HasTexts) (identities_in votes)
     (λ rsa. line_within HasLineTexts HasTexts method (cap_of limit votes) votes rsa (entries_fill votes all)
     (λ ed members each.
-    let flags = router_flags votes ed (belonging_listings ed (listings votes rsa)) in
+    let flags = router_flags method votes ed (belonging_listings ed (listings votes rsa)) in
     if_some (λ (tuple : Tuple). HasTexts (routerline_of method (cap_of limit votes) rsa flags members tuple))
     (chosen_tuple members)
     (λ tuple. texts_chosen method (cap_of limit votes) rsa flags members tuple each))

@@ -9,8 +9,9 @@ use Rattle.vote_laws.specs.Again as votes_
 use Rattle.consensus_terms.specs.Routers.{is_listed}
 use Rattle.consensus_laws.{specs.Again.{AreListsInRange, IsRouterInRange}, proofs.SignedParts.computed_again}
 use Rattle.bandwidth_rules.specs.Limits.{unmeasured_limit}
-use Rattle.compute_terms.specs.{Consensuses.consensus, Lists.{listed_params, lists_of}, Methods.chosen_method}
-use Rattle.compute_terms.specs.{Methods.listed_methods, Routers.routers}
+use Rattle.compute_terms.specs.{Consensuses.{agreements_of, consensus}, Lists.{half_of, listed_params, lists_of}}
+use Rattle.compute_terms.specs.{Lists.{needed_votes, two_thirds_of}, Methods.{chosen_method, listed_methods}}
+use Rattle.compute_terms.specs.Routers.{routers}
 use Rattle.computed_laws.specs.Computed.{AreVotesInRange, ComputedFactsAreInRange, ComputedTextsAreReadAgain}
 use Rattle.computed_laws.{specs.Computed.{IsVoteInRange, ReadableVotesAreInRange}, proofs.KnownFlags.KnowNames}
 use Rattle.computed_laws.proofs.{KnownFlags.known_in_range, ListedParams.{params_in_range, protocols_in_range}}
@@ -62,19 +63,23 @@ module _ (votes : List ReadVote) (all : AreVotesInRange votes) where
       → All (λ (vote : ReadVote). IfSome (line vote.says.lists) AreProtocolsInRange) votes
   protocols line from = each _ (λ vote is. from vote.says.lists is.lists)
 
-  lists_in_range : (roster : ℕ) → AreListsInRange (lists_of roster votes)
-  lists_in_range roster = record {
+  lists_in_range : (method roster : ℕ) → AreListsInRange (lists_of method roster votes)
+  lists_in_range method roster = record {
     client_versions = versions_in_range (λ (lists : VoteLists). lists.client_versions) votes
         (versions (λ (lists : VoteLists). lists.client_versions) (λ lists is. is.client_versions));
     server_versions = versions_in_range (λ (lists : VoteLists). lists.server_versions) votes
         (versions (λ (lists : VoteLists). lists.server_versions) (λ lists is. is.server_versions));
-    recommended_client_protocols = protocols_in_range (λ (lists : VoteLists). lists.recommended_client_protocols) votes
+    recommended_client_protocols = protocols_in_range (needed_votes method (half_of roster) votes)
+        (λ (lists : VoteLists). lists.recommended_client_protocols) votes
         (protocols (λ (lists : VoteLists). lists.recommended_client_protocols) (λ lists is. is.recommended_client_protocols));
-    recommended_relay_protocols = protocols_in_range (λ (lists : VoteLists). lists.recommended_relay_protocols) votes
+    recommended_relay_protocols = protocols_in_range (needed_votes method (half_of roster) votes)
+        (λ (lists : VoteLists). lists.recommended_relay_protocols) votes
         (protocols (λ (lists : VoteLists). lists.recommended_relay_protocols) (λ lists is. is.recommended_relay_protocols));
-    required_client_protocols = protocols_in_range (λ (lists : VoteLists). lists.required_client_protocols) votes
+    required_client_protocols = protocols_in_range (needed_votes method (two_thirds_of roster) votes)
+        (λ (lists : VoteLists). lists.required_client_protocols) votes
         (protocols (λ (lists : VoteLists). lists.required_client_protocols) (λ lists is. is.required_client_protocols));
-    required_relay_protocols = protocols_in_range (λ (lists : VoteLists). lists.required_relay_protocols) votes
+    required_relay_protocols = protocols_in_range (needed_votes method (two_thirds_of roster) votes)
+        (λ (lists : VoteLists). lists.required_relay_protocols) votes
         (protocols (λ (lists : VoteLists). lists.required_relay_protocols) (λ lists is. is.required_relay_protocols));
     params = params_in_range roster votes
         (each (λ (vote : ReadVote). IfSome vote.says.lists.params votes_.AreVoteParams) (λ vote is. is.lists.params));
@@ -82,8 +87,9 @@ module _ (votes : List ReadVote) (all : AreVotesInRange votes) where
 
 pub facts_in_range : ComputedFactsAreInRange
 facts_in_range flavour newest roster votes all =
-    let limit = unmeasured_limit (listed_params roster votes) in
     let method = chosen_method newest votes in
+    let limit = unmeasured_limit method (listed_params roster votes) in
+    let least = agreements_of method roster votes in
     let relays = routers roster method limit votes in
     record {
       method = method_within newest (listed_methods votes);
@@ -97,10 +103,12 @@ facts_in_range flavour newest roster votes all =
           (each votes all _ (λ vote is. is.vote_seconds));
       dist_seconds = time_within 4294967295 (λ vote. vote.says.dist_seconds) votes
           (each votes all _ (λ vote is. is.dist_seconds));
-      known_flags = known_in_range votes (names votes all);
-      lists = lists_in_range votes all roster;
-      random_previous = random_in_range line.Previous roster votes (each votes all _ (λ vote is. is.random_previous));
-      random_current = random_in_range line.Current roster votes (each votes all _ (λ vote is. is.random_current));
+      known_flags = known_in_range method votes (names votes all);
+      lists = lists_in_range votes all method roster;
+      random_previous = random_in_range line.Previous roster least votes
+          (each votes all _ (λ vote is. is.random_previous));
+      random_current = random_in_range line.Current roster least votes
+          (each votes all _ (λ vote is. is.random_current));
       sources = sources_in_range votes all;
       routers = All-filter (is_listed flavour) (IsRouterInRange flavour) relays
           (relays_in_range flavour roster method limit votes (names votes all) (entries votes all));

@@ -1,11 +1,12 @@
 -- What is computed of votes that can be read may be written, but for limits, and within these it is read again.
-use Rattle.std.proofs.{Common.{List, [], ◌∷◌, map, refl}, lemmas.List.Elements.{All-cons, All-filter, All-head}}
-use Rattle.std.{proofs.lemmas.List.Elements.{All-map, All-nil, All-tail, All-weaker}, specs.Prelude.{All, IfSome}}
-use Rattle.std.specs.List.{join_with_byte}
+use Rattle.std.proofs.{Common.{ℕ, List, [], ◌∷◌, Option, Some, None, map, refl}, lemmas.List.Elements.All-cons}
+use Rattle.std.proofs.lemmas.List.Elements.{All-filter, All-head, All-map, All-nil, All-tail, All-weaker}
+use Rattle.std.specs.{Prelude.{All, IfSome, option_map}, List.join_with_byte}
 use Rattle.item_terms.specs.Bytes.{space}
 use Rattle.dirdoc_grammar.specs.Writing.{IsLineRest}
 use Rattle.grammar_laws.{specs.Written.IsItem, proofs.LineRests.rest_of_nothing}
 use Rattle.frame_terms.specs.declared.keyword.Keyword.TheVariants as the
+use Rattle.bw_weights.specs.declared.position_weights.Weights.{Weights}
 use Rattle.vote_terms.specs.Votes.{ReadVote}
 use Rattle.vote_laws.specs.Again as vote_laws
 use Rattle.consensus_terms.specs.{Flavours.{facts_in, moment_of_all, router_at}, Routers.is_listed, Signed.in_order}
@@ -25,7 +26,7 @@ use Rattle.computed_laws.{specs.WithinLimits.ConsensusesWithinLimitsAreReadAgain
 use Rattle.computed_laws.proofs.{ChosenTexts.relays_fill, ComputedFacts.{facts_in_range, readable_in_range}}
 use Rattle.computed_laws.proofs.{ComputedFacts.texts_again, FactItems.{HasTexts, preamble_are, router_are}}
 use Rattle.computed_laws.proofs.{FactItems.{signature_is, source_are}, SaidFacts.facts_said, Forms.{AreItems, after}}
-use Rattle.computed_laws.proofs.{Forms.{bare_are, bare_is, each_are, ◌&◌}, VoteLines.readable_fill}
+use Rattle.computed_laws.proofs.{Forms.{bare_is, each_are, if_are, ◌&◌}, VoteLines.readable_fill}
 use Rattle.computed_laws.proofs.WeightWords.{weights_fill}
 
 -- ---- the items
@@ -44,14 +45,21 @@ signatures_are lines signed_ = record {
       (in_order lines) (each_in_order IsSignature lines signed_));
 }
 
+abbrev weights_text : Weights → List ℕ
+weights_text weights = join_with_byte space (weight_words weights)
+
+weights_filled : (weights : Option Weights) → IfSome (option_map weights_text weights) IsLineRest
+weights_filled None = tt
+weights_filled (Some weights) = weights_fill weights
+
 pub computed_items : ComputedItemsAreItems
 computed_items flavour newest roster votes lines in_range fills signed_ =
     let c = consensus newest roster votes in
     let said = facts_in flavour c.facts in
     let are = facts_said flavour c.facts (facts_in_range flavour newest roster votes in_range) in
     let at : Routerline → Routerline = router_at (moment_of_all flavour c.facts.method) in
-    let limit = unmeasured_limit (listed_params roster votes) in
     let method = chosen_method newest votes in
+    let limit = unmeasured_limit method (listed_params roster votes) in
     let relays : List Routerline = map at (routers roster method limit votes) in
     let sources : All (λ (s : SourceLine). AreItems (source_items s)) (map source_of votes) =
     all_from_two_facts IsAuthorityInRange (λ (s : SourceLine). IfSome s.contact IsLineRest)
@@ -69,8 +77,8 @@ computed_items flavour newest roster votes lines in_range fills signed_ =
     preamble_are flavour said are & each_are source_items (map source_of votes) sources
     & each_are (router_items flavour) (listed flavour relays) each
     & after (bare_is the.DirectoryFooter [] (record { first = refl; each = refl }) rest_of_nothing)
-    (bare_are the.BandwidthWeights (join_with_byte space (weight_words c.weights)) (record { first = refl; each = refl })
-    (weights_fill c.weights))
+    (if_are the.BandwidthWeights (option_map weights_text c.weights) (record { first = refl; each = refl })
+    (weights_filled c.weights))
     & signatures_are lines signed_ in
     items.each
 

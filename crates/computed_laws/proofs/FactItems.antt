@@ -7,8 +7,9 @@ use Rattle.item_terms.specs.Bytes.{space}
 use Rattle.base64.specs.GeneralPurpose.{IsBytes}
 use Rattle.dir_bytes.specs.FieldTexts.{address_text, base64_text, hex_text, moment_text}
 use Rattle.dir_values.specs.{FlagSets.set_text, declared.digest.Digest2.Digest2}
-use Rattle.dirdoc_grammar.specs.Writing.{IsLineRest}
-use Rattle.grammar_laws.{specs.Written.IsItem, proofs.LineRests.rest_of_argument}
+use Rattle.dirdoc_grammar.specs.Writing.{IsKeyword, IsLineRest}
+use Rattle.grammar_laws.{specs.Written.IsItem, proofs.LineRests.{rest_of_argument, rest_of_nothing}}
+use Rattle.frame_terms.specs.{Keywords.text_of, declared.keyword.Keyword.Keyword}
 use Rattle.frame_terms.specs.declared.keyword.Keyword.TheVariants as the
 use Rattle.frame_values.specs.Parts.{moment_of}
 use Rattle.frame_laws.proofs.WordTexts.{AreWords, IsWord, two_words, word_of_address, word_of_identity}
@@ -20,18 +21,19 @@ use Rattle.group_laws.specs.{LineAgain.{AreFlagsInRange, IsRandomInRange}, Range
 use Rattle.group_laws.proofs.{WrittenMicros.word_of_thirty_two, WrittenRelays.word_of_twenty}
 use Rattle.value_groups.specs.{Values.random_text, declared.value.SharedRandom.SharedRandom}
 use Rattle.vote_laws.proofs.VoteRandoms.{random_fills}
-use Rattle.consensus_terms.specs.{Lines.named_text, Routers.{digest_words, name_words, place_words, unmeasured_words}}
-use Rattle.consensus_terms.specs.{Signed.signature_item, Texts.{source_words, version_words}}
-use Rattle.consensus_terms.specs.declared.consensus.{ConsensusFacts.ConsensusFacts, ConsensusLists.ConsensusLists}
-use Rattle.consensus_terms.specs.declared.{consensus.SourceLine.SourceLine, flavour.Flavour.{Flavour, TheVariants.Ns}}
-use Rattle.consensus_terms.specs.declared.{flavour.Flavour.TheVariants.Microdesc, router.Bandwidth.Bandwidth}
-use Rattle.consensus_terms.specs.declared.{router.Routerline.Routerline, signature.SignatureLine.SignatureLine}
+use Rattle.consensus_terms.specs.{Lines.named_text, Methods.is_34_or_later, Routers.{digest_words, name_words}}
+use Rattle.consensus_terms.specs.{Routers.{place_words, unmeasured_words}, Signed.signature_item, Texts.source_words}
+use Rattle.consensus_terms.specs.{Texts.version_words, declared.consensus.ConsensusFacts.ConsensusFacts}
+use Rattle.consensus_terms.specs.declared.consensus.{ConsensusLists.ConsensusLists, SourceLine.SourceLine}
+use Rattle.consensus_terms.specs.declared.flavour.Flavour.{Flavour, TheVariants.{Ns, Microdesc}}
+use Rattle.consensus_terms.specs.declared.router.{Bandwidth.Bandwidth, Routerline.Routerline}
+use Rattle.consensus_terms.specs.declared.signature.SignatureLine.{SignatureLine}
 use Rattle.consensus_laws.specs.Again.{AreFactsInRange, AreListsInRange, IsAuthorityInRange, IsMicroInRange}
-use Rattle.consensus_laws.specs.{Again.{IsRouterInRange, IsSignatureInRange}, Items.{kind_items, list_if, m_text}}
+use Rattle.consensus_laws.specs.{Again.{IsRouterInRange, IsSignatureInRange}, Items.{kind_items, list_items, m_text}}
 use Rattle.consensus_laws.specs.Items.{p_text, preamble_items, protocol_items, router_items, router_words, source_items}
 use Rattle.consensus_laws.specs.Items.{time_items, version_items, w_text}
 use Rattle.computed_laws.proofs.Forms.{AreItems, IsFilled, after, bare_are, bare_is, if_are, join_filled, moment_filled}
-use Rattle.computed_laws.proofs.Forms.{named_word, word_filled, words_filled, ◌&◌}
+use Rattle.computed_laws.proofs.Forms.{named_word, no_items, word_filled, words_filled, ◌&◌}
 
 -- ---- the preamble
 
@@ -66,36 +68,38 @@ times_are c =
     (two_words (decimal c.vote_seconds) (decimal c.dist_seconds) (word_of_number c.vote_seconds)
     (word_of_number c.dist_seconds))))))
 
-list_fills : {X : Type 0} (text_of : List X → List ℕ) (list : List X) → IsLineRest (text_of list)
-    → IfSome (list_if text_of list) IsLineRest
-list_fills text_of [] is = tt
-list_fills text_of (x ∷ rest) is = is
+-- a list
+list_are : {X : Type 0} (always : Bool) (keyword : Keyword) (text : List X → List ℕ) (list : List X)
+    → IsKeyword (text_of keyword) → IsLineRest (text list) → AreItems (list_items always keyword text list)
+list_are true keyword text (x ∷ rest) is fills = bare_are keyword (text (x ∷ rest)) is fills
+list_are false keyword text (x ∷ rest) is fills = bare_are keyword (text (x ∷ rest)) is fills
+list_are true keyword text [] is fills =
+    after (record { keyword = is; arguments = rest_of_nothing; object = tt }) no_items
+list_are false keyword text [] is fills = no_items
 
-versions_listed : (lists : ConsensusLists) → AreListsInRange lists → AreItems (version_items lists)
-versions_listed lists are =
-    if_are the.ClientVersions (list_if versions_text lists.client_versions) (record { first = refl; each = refl })
-    (list_fills versions_text lists.client_versions (versions_fill lists.client_versions are.client_versions))
-    & if_are the.ServerVersions (list_if versions_text lists.server_versions) (record { first = refl; each = refl })
-    (list_fills versions_text lists.server_versions (versions_fill lists.server_versions are.server_versions))
+versions_listed : (always : Bool) (lists : ConsensusLists) → AreListsInRange lists
+    → AreItems (version_items always lists)
+versions_listed always lists are =
+    list_are always the.ClientVersions versions_text lists.client_versions (record { first = refl; each = refl })
+    (versions_fill lists.client_versions are.client_versions)
+    & list_are always the.ServerVersions versions_text lists.server_versions (record { first = refl; each = refl })
+    (versions_fill lists.server_versions are.server_versions)
 
-protocols_listed : (lists : ConsensusLists) → AreListsInRange lists → AreItems (protocol_items lists)
-protocols_listed lists are =
-    if_are the.RecommendedClientProtocols (list_if protocols_text lists.recommended_client_protocols)
+protocols_listed : (always : Bool) (lists : ConsensusLists) → AreListsInRange lists
+    → AreItems (protocol_items always lists)
+protocols_listed always lists are =
+    list_are always the.RecommendedClientProtocols protocols_text lists.recommended_client_protocols
     (record { first = refl; each = refl })
-    (list_fills protocols_text lists.recommended_client_protocols
-    (protocols_fill lists.recommended_client_protocols are.recommended_client_protocols))
-    & if_are the.RecommendedRelayProtocols (list_if protocols_text lists.recommended_relay_protocols)
+    (protocols_fill lists.recommended_client_protocols are.recommended_client_protocols)
+    & list_are always the.RecommendedRelayProtocols protocols_text lists.recommended_relay_protocols
     (record { first = refl; each = refl })
-    (list_fills protocols_text lists.recommended_relay_protocols
-    (protocols_fill lists.recommended_relay_protocols are.recommended_relay_protocols))
-    & if_are the.RequiredClientProtocols (list_if protocols_text lists.required_client_protocols)
+    (protocols_fill lists.recommended_relay_protocols are.recommended_relay_protocols)
+    & list_are always the.RequiredClientProtocols protocols_text lists.required_client_protocols
     (record { first = refl; each = refl })
-    (list_fills protocols_text lists.required_client_protocols
-    (protocols_fill lists.required_client_protocols are.required_client_protocols))
-    & if_are the.RequiredRelayProtocols (list_if protocols_text lists.required_relay_protocols)
+    (protocols_fill lists.required_client_protocols are.required_client_protocols)
+    & list_are always the.RequiredRelayProtocols protocols_text lists.required_relay_protocols
     (record { first = refl; each = refl })
-    (list_fills protocols_text lists.required_relay_protocols
-    (protocols_fill lists.required_relay_protocols are.required_relay_protocols))
+    (protocols_fill lists.required_relay_protocols are.required_relay_protocols)
 
 flags_fill : (flags : List (List ℕ)) → AreFlagsInRange flags → IsLineRest (set_text flags)
 flags_fill flags are = rest_of_words flags (words_of_flags flags are.each)
@@ -108,12 +112,12 @@ randoms_fill (Some random) are = random_fills random are
 pub preamble_are : (flavour : Flavour) (c : ConsensusFacts) → AreFactsInRange flavour c
     → AreItems (preamble_items flavour c)
 preamble_are flavour c are =
-    kinds_are flavour c.method & times_are c & versions_listed c.lists are.lists
+    kinds_are flavour c.method & times_are c & versions_listed (is_34_or_later c.method) c.lists are.lists
     & bare_are the.KnownFlags (set_text c.known_flags) (record { first = refl; each = refl })
     (flags_fill c.known_flags are.known_flags)
-    & protocols_listed c.lists are.lists
-    & if_are the.Params (list_if params_text c.lists.params) (record { first = refl; each = refl })
-    (list_fills params_text c.lists.params (params_fill c.lists.params are.lists.params))
+    & protocols_listed (is_34_or_later c.method) c.lists are.lists
+    & list_are false the.Params params_text c.lists.params (record { first = refl; each = refl })
+    (params_fill c.lists.params are.lists.params)
     & (if_are the.SharedRandPreviousValue (option_map random_text c.random_previous) (record { first = refl; each = refl })
     (randoms_fill c.random_previous are.random_previous)
     & if_are the.SharedRandCurrentValue (option_map random_text c.random_current) (record { first = refl; each = refl })

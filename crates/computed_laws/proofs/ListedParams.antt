@@ -67,10 +67,10 @@ numbers_in_range : (test : ℕ → Bool) → AreNumbersInRange (numbers_that tes
 numbers_in_range test = subst AreNumbersInRange (numbers_that_pass test) (kept_in_range (mask_that test))
 
 -- a line of protocols of votes
-pub protocols_in_range : (line : VoteLists → Option (List (Named (List ℕ)))) (votes : List ReadVote)
+pub protocols_in_range : (least : ℕ) (line : VoteLists → Option (List (Named (List ℕ)))) (votes : List ReadVote)
     → All (λ (vote : ReadVote). IfSome (line vote.says.lists) AreProtocolsInRange) votes
-    → AreProtocolsInRange (listed_protocols line votes)
-protocols_in_range line votes all =
+    → AreProtocolsInRange (listed_protocols least line votes)
+protocols_in_range least line votes all =
     let lists : List (List (Named (List ℕ))) = members_of line votes in
     let each : All (All HasName) lists =
     members_in (All HasName) line votes (All-nil HasName)
@@ -78,11 +78,12 @@ protocols_in_range line votes all =
     (λ (vote : ReadVote). IfSome (line vote.says.lists) (All HasName))
     (λ vote is. IfSome_then (line vote.says.lists) {P = AreProtocolsInRange} {Q = All HasName} is
     (λ protocols are. All-weaker IsProtocolInRange HasName (λ protocol one. one.name) protocols are.each)) votes all) in
-    let names : List (List ℕ) = filter (is_listed_protocol lists) (all_names lists) in
+    let names : List (List ℕ) = filter (is_listed_protocol least lists) (all_names lists) in
     record {
-      ascend = ascend_among (listed_numbers lists) (is_listed_protocol lists) (all_names lists) (names_ascend lists);
-      each = All-map IsProtocolInRange (λ (name : List ℕ). named_value name (listed_numbers lists name)) names
-          (All-weaker IsName (λ (name : List ℕ). IsProtocolInRange (named_value name (listed_numbers lists name)))
-          (λ name is. record { name = is; numbers = numbers_in_range (is_listed_number lists name) }) names
-          (All-filter (is_listed_protocol lists) IsName (all_names lists) (names_in_range lists each)));
+      ascend = ascend_among (listed_numbers least lists) (is_listed_protocol least lists) (all_names lists)
+          (names_ascend lists);
+      each = All-map IsProtocolInRange (λ (name : List ℕ). named_value name (listed_numbers least lists name)) names
+          (All-weaker IsName (λ (name : List ℕ). IsProtocolInRange (named_value name (listed_numbers least lists name)))
+          (λ name is. record { name = is; numbers = numbers_in_range (is_listed_number least lists name) }) names
+          (All-filter (is_listed_protocol least lists) IsName (all_names lists) (names_in_range lists each)));
     }

@@ -1,6 +1,6 @@
 -- What votes say of one relay: its entries, and what is chosen among their values.
 use Rattle.std.proofs.Common.{ℕ, ◌≤◌, Bool, true, false, List, Option, Some, None, map}
-use Rattle.std.{proofs.lemmas.List.Elements.{All-filter, All-map, All-weaker}, specs.Prelude.{All, IfSome}}
+use Rattle.std.{proofs.lemmas.List.Elements.{All-filter, All-map, All-weaker}, specs.Prelude.{All, IfSome, not, ◌&&◌}}
 use Rattle.std.specs.{Prelude.{option_and_then, if◌then◌else◌}, List.{filter_map, find}, Ordering.is_eq, Str.bytes_eq}
 use Rattle.std.specs.declared.cmp.Ordering.{Ordering}
 use Rattle.dir_values.specs.declared.digest.{Digest1.Digest1, Digest2.Digest2, Fingerprint.Fingerprint}
@@ -11,10 +11,12 @@ use Rattle.count_terms.specs.Choosing.{chosen, leads, text_order}
 use Rattle.vote_terms.specs.{Votes.ReadVote, Entries.{bandwidth_of, first_address, gives, measured_of, micro_for}}
 use Rattle.vote_terms.specs.declared.entry.{EntryFacts.EntryFacts, MicroFacts.MicroFacts}
 use Rattle.vote_laws.specs.Again.{IsEntryInRange, IsMicroInRange}
+use Rattle.consensus_terms.specs.Methods.{is_34_or_later}
 use Rattle.compute_terms.specs.{Bandwidths.{bandwidth_values, measured_values}, Identities.belongs, Lines.address_with}
-use Rattle.compute_terms.specs.{Lines.{chosen_address, chosen_micro, digest_order, micro_with}, Listings.Listing}
-use Rattle.compute_terms.specs.{Listings.{entries_of, entry_of, listing_in, listings}, Routers.belonging_listings}
-use Rattle.compute_terms.specs.{Tuples.{Tuple, chosen_tuple, tuple_of, tuple_order}, declared.identity.EdPart.EdPart}
+use Rattle.compute_terms.specs.Lines.{chosen_address, chosen_micro, counted_address, digest_order, is_ipv6, micro_with}
+use Rattle.compute_terms.specs.Listings.{Listing, entries_of, entry_of, listing_in, listings}
+use Rattle.compute_terms.specs.{Routers.belonging_listings, Tuples.{Tuple, chosen_tuple, tuple_of, tuple_order}}
+use Rattle.compute_terms.specs.declared.identity.EdPart.{EdPart}
 use Rattle.computed_laws.proofs.Kept.{All-filter_map, IfSome-find, IfSome-map}
 
 -- ---- the entries
@@ -63,13 +65,25 @@ pub value_if : {A : Type 0} (P : A → Type 0) (b : Bool) (o : Option A) → IfS
 value_if P true o is = is
 value_if P false o is = tt
 
+-- an address, where it counts
+counted_within : (method : ℕ) (o : Option (List ℕ)) → IfSome o IsAddressInRange
+    → IfSome (counted_address method o) IsAddressInRange
+counted_within method None is = tt
+counted_within method (Some address) is = by (is_34_or_later method && not (is_ipv6 address))
+  where
+    by : (b : Bool) → IfSome (if b then None else Some address) IsAddressInRange
+    by true = tt
+    by false = is
+
 -- the address
-pub address_in_range : (tuple : Tuple) (entries : List EntryFacts) → All IsEntryInRange entries
-    → IfSome (chosen_address tuple entries) IsAddressInRange
-address_in_range tuple entries all =
-    chosen_of IsEntryInRange IsAddressInRange text_order (address_with tuple) entries
-    (λ e is. value_if IsAddressInRange (is_eq (tuple_order (tuple_of e) tuple)) (first_address e)
-    (IfSome-find IsAddressInRange (λ (text : List ℕ). true) e.addresses is.addresses)) all
+pub address_in_range : (method : ℕ) (tuple : Tuple) (entries : List EntryFacts) → All IsEntryInRange entries
+    → IfSome (chosen_address method tuple entries) IsAddressInRange
+address_in_range method tuple entries all =
+    chosen_of IsEntryInRange IsAddressInRange text_order (address_with method tuple) entries
+    (λ e is. value_if IsAddressInRange (is_eq (tuple_order (tuple_of e) tuple))
+    (counted_address method (first_address e))
+    (counted_within method (first_address e)
+    (IfSome-find IsAddressInRange (λ (text : List ℕ). true) e.addresses is.addresses))) all
 
 -- the digest of the microdescriptor
 pub micro_in_range : (method : ℕ) (digest : Digest1) (entries : List EntryFacts) → All IsEntryInRange entries

@@ -86,7 +86,7 @@ module _ (flavour : Flavour) (method : ℕ) (most : Option ℕ) (rsa : Fingerpri
     ip = is.ip;
     or_port = is.or_port;
     dir_port = is.dir_port;
-    a = address_in_range tuple entries all;
+    a = address_in_range method tuple entries all;
     m = micro_in flavour (chosen_micro method tuple.digest entries) (micro_in_range method tuple.digest entries all);
     flags = are;
     w = bandwidth_in_range most entries all;
@@ -102,7 +102,7 @@ module _ (E : EntryFacts → Type 0) (P : Routerline → Type 0) (method : ℕ) 
   IsMade ed members =
       IfSome (chosen_tuple members)
       (λ (tuple : Tuple). P (routerline_of method most rsa
-      (router_flags votes ed (belonging_listings ed (listings votes rsa))) members tuple))
+      (router_flags method votes ed (belonging_listings ed (listings votes rsa))) members tuple))
 
   with_within : (flags : List (List ℕ)) (members : List EntryFacts)
       → IfSome (chosen_tuple members) (λ (tuple : Tuple). P (routerline_of method most rsa flags members tuple))
@@ -119,21 +119,21 @@ module _ (E : EntryFacts → Type 0) (P : Routerline → Type 0) (method : ℕ) 
   line_within each None = tt
   line_within each (Some ed) =
       let members = belonging_listings ed (listings votes rsa) in
-      with_within (router_flags votes ed members) (entries_of members)
+      with_within (router_flags method votes ed members) (entries_of members)
       (each ed (entries_of members) (members_within E votes rsa ed entries))
 
 -- ---- in range
 
 -- what is said of an identity of twenty bytes
-pub relay_in_range : (flavour : Flavour) (roster method limit : ℕ) (votes : List ReadVote) (rsa : Fingerprint) → AreTwenty rsa.0
+pub relay_in_range : (flavour : Flavour) (roster method : ℕ) (limit : Option ℕ) (votes : List ReadVote) (rsa : Fingerprint) → AreTwenty rsa.0
     → KnowNames votes → AllEntries IsEntryInRange votes
     → IfSome (router_of roster method limit votes rsa) (IsRouterInRange flavour)
 relay_in_range flavour roster method limit votes rsa identity names entries =
     let most = cap_of limit votes in
     line_within IsEntryInRange (IsRouterInRange flavour) method most votes rsa entries
     (λ ed members all.
-    let flags = router_flags votes ed (belonging_listings ed (listings votes rsa)) in
-    let are = relay_flags_in_range votes ed (belonging_listings ed (listings votes rsa)) names in
+    let flags = router_flags method votes ed (belonging_listings ed (listings votes rsa)) in
+    let are = relay_flags_in_range method votes ed (belonging_listings ed (listings votes rsa)) names in
     IfSome_then (chosen_tuple members)
     {P = IsTupleInRange} {Q = λ (tuple : Tuple). IsRouterInRange flavour (routerline_of method most rsa flags members tuple)}
     (tuple_within IsTupleInRange IsEntryInRange members tuple_in_range all)

@@ -51,7 +51,7 @@ identities_ascend votes = AllPairs-map Below print_of (as_set (bytes_in votes)) 
 -- ---- the relays
 
 -- each that is listed is in range
-pub relays_in_range : (flavour : Flavour) (roster method limit : ℕ) (votes : List ReadVote) → KnowNames votes
+pub relays_in_range : (flavour : Flavour) (roster method : ℕ) (limit : Option ℕ) (votes : List ReadVote) → KnowNames votes
     → AllEntries IsEntryInRange votes → All (IsRouterInRange flavour) (routers roster method limit votes)
 relays_in_range flavour roster method limit votes names entries =
     All-filter_map (IsRouterInRange flavour) (router_of roster method limit votes) (identities_in votes)
@@ -74,11 +74,11 @@ named_by : (method : ℕ) (most : Option ℕ) (votes : List ReadVote) (rsa : Fin
 named_by method most votes rsa said None = tt
 named_by method most votes rsa said (Some ed) =
     let members = belonging_listings ed said in
-    named_if method most rsa (router_flags votes ed members) (entries_of members)
-    (is_running_and_valid (router_flags votes ed members)) (chosen_tuple (entries_of members))
+    named_if method most rsa (router_flags method votes ed members) (entries_of members)
+    (is_running_and_valid (router_flags method votes ed members)) (chosen_tuple (entries_of members))
 
 -- what is said of an identity has it
-named : (roster method limit : ℕ) (votes : List ReadVote) (rsa : Fingerprint)
+named : (roster method : ℕ) (limit : Option ℕ) (votes : List ReadVote) (rsa : Fingerprint)
     → IfSome (router_of roster method limit votes rsa) (Has rsa)
 named roster method limit votes rsa =
     named_by method (cap_of limit votes) votes rsa (listings votes rsa) (included_part roster (eds_of (listings votes rsa)))
@@ -90,7 +90,7 @@ before : (x y : Fingerprint) (a b : Routerline) → Has x a → Has y b → Belo
 before x y a b is other below = rw (is, other) below
 
 -- so they ascend
-pub relays_ascend : (roster method limit : ℕ) (votes : List ReadVote) → Ascending (routers roster method limit votes)
+pub relays_ascend : (roster method : ℕ) (limit : Option ℕ) (votes : List ReadVote) → Ascending (routers roster method limit votes)
 relays_ascend roster method limit votes =
     AllPairs-filter_map Below Before Has (router_of roster method limit votes) (named roster method limit votes) before
     (identities_in votes) (identities_ascend votes)

@@ -14,31 +14,32 @@ use Rattle.computed_laws.proofs.RelayOrder.{Before}
 
 -- ---- the method
 
--- such a number, or else what is found behind it
-either_within : (method : ℕ) (b : Bool) (behind : Option ℕ) → method ≤ 4294967295 → unwrap_or behind 32 ≤ 4294967295
-    → unwrap_or (if b then Some method else behind) 32 ≤ 4294967295
-either_within method true behind small is = small
-either_within method false behind small is = is
+-- such a number, or else what is found behind it, or the last
+either_within : (method last : ℕ) (b : Bool) (behind : Option ℕ) → method ≤ 4294967295
+    → unwrap_or behind last ≤ 4294967295
+    → unwrap_or (if b then Some method else behind) last ≤ 4294967295
+either_within method last true behind small is = small
+either_within method last false behind small is = is
 
-least_within : 32 ≤ 4294967295
-least_within = omega arith
+up_to_33 : (last : ℕ) (lists : List (List ℕ)) → last ≤ 4294967295
+    → unwrap_or (find (is_supported lists) (33 ∷ 32 ∷ [])) last ≤ 4294967295
+up_to_33 last lists small =
+    either_within 33 last (is_supported lists 33) (find (is_supported lists) (32 ∷ [])) (omega arith)
+    (either_within 32 last (is_supported lists 32) None (omega arith) small)
 
-up_to_33 : (lists : List (List ℕ)) → method_of Method33 lists ≤ 4294967295
-up_to_33 lists =
-    either_within 33 (is_supported lists 33) (find (is_supported lists) (32 ∷ [])) (omega arith)
-    (either_within 32 (is_supported lists 32) None least_within least_within)
-
-up_to_34 : (lists : List (List ℕ)) → method_of Method34 lists ≤ 4294967295
-up_to_34 lists =
-    either_within 34 (is_supported lists 34) (find (is_supported lists) (33 ∷ 32 ∷ [])) (omega arith) (up_to_33 lists)
+up_to_34 : (last : ℕ) (lists : List (List ℕ)) → last ≤ 4294967295
+    → unwrap_or (find (is_supported lists) (34 ∷ 33 ∷ 32 ∷ [])) last ≤ 4294967295
+up_to_34 last lists small =
+    either_within 34 last (is_supported lists 34) (find (is_supported lists) (33 ∷ 32 ∷ [])) (omega arith)
+    (up_to_33 last lists small)
 
 -- the method that lists choose is a number that an item may have
 pub method_within : (newest : Newest) (lists : List (List ℕ)) → method_of newest lists ≤ 4294967295
-method_within Method33 lists = up_to_33 lists
-method_within Method34 lists = up_to_34 lists
+method_within Method33 lists = up_to_33 32 lists (omega arith)
+method_within Method34 lists = up_to_34 34 lists (omega arith)
 method_within Method35 lists =
-    either_within 35 (is_supported lists 35) (find (is_supported lists) (34 ∷ 33 ∷ 32 ∷ [])) (omega arith)
-    (up_to_34 lists)
+    either_within 35 35 (is_supported lists 35) (find (is_supported lists) (34 ∷ 33 ∷ 32 ∷ [])) (omega arith)
+    (up_to_34 35 lists (omega arith))
 
 -- ---- the moments
 

@@ -81,15 +81,11 @@ fn push_if(values: &mut Vec<u32>, value: Option<u32>) -> Result<(), Memory>
     Ok(())
 }
 
-/// What a bandwidth that is not measured may be at most: the limit, where three votes measure.
-pub fn cap_of(limit: u32, votes: &Accepted) -> Option<u32>
+/// What a bandwidth that is not measured may be at most: the limit, if there is one, where three votes measure.
+pub fn cap_of(limit: Option<u32>, votes: &Accepted) -> Option<u32>
     ensures { result ≡ terms.cap_of limit votes.now.votes }
 {
-    if measuring(votes) >= 3 {
-        Some(limit)
-    } else {
-        None
-    }
+    if measuring(votes) >= 3 { limit } else { None }
 }
 
 /// How many votes measure.

@@ -1,6 +1,7 @@
 //! The consensus of the votes that are held. The relays that a consensus lists, computed in one walk over the votes.
 #![tactic(auto)]
 
+mod agreements;
 mod bandwidth;
 mod counting;
 mod flags;

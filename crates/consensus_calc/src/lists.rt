@@ -5,26 +5,68 @@ ghost use Rattle.vote_terms.specs.declared.lists.VoteLists.{VoteLists};
 
 use crate::protocol_lists::{ProtocolsLine, listed_protocols};
 use crate::version_lists::{VersionsLine, listed_versions};
-use consensus_terms::ConsensusLists;
+use consensus_terms::{ConsensusLists, is_34_or_later};
 use dir_bytes::Memory;
 use list_values::Params;
 use std::alloc::Global;
 use vote_doc::Accepted;
 
-/// The versions, protocols and params of the consensus of votes, where the roster has so many authorities.
-pub fn lists_of(alloc: Global, roster: u32, votes: &Accepted) -> Result<ConsensusLists, Memory>
-    ensures { IfOk result (λ lists. lists ≡ terms.lists_of roster votes.now.votes) }
+/// The versions, protocols and params of the consensus of votes by this method, where the roster has so many authorities.
+pub fn lists_of(
+    alloc: Global,
+    method: u32,
+    roster: u32,
+    votes: &Accepted,
+) -> Result<ConsensusLists, Memory>
+    ensures { IfOk result (λ lists. lists ≡ terms.lists_of method roster votes.now.votes) }
 {
     use ProtocolsLine::*;
+    let recommending = needed_votes(method, half_of(roster), votes);
+    let requiring = needed_votes(method, two_thirds_of(roster), votes);
     Ok(ConsensusLists {
         client_versions: listed_versions(alloc, votes, VersionsLine::ForClients)?,
         server_versions: listed_versions(alloc, votes, VersionsLine::ForRelays)?,
-        recommended_client_protocols: listed_protocols(alloc, votes, RecommendedForClients)?,
-        recommended_relay_protocols: listed_protocols(alloc, votes, RecommendedForRelays)?,
-        required_client_protocols: listed_protocols(alloc, votes, RequiredOfClients)?,
-        required_relay_protocols: listed_protocols(alloc, votes, RequiredOfRelays)?,
+        recommended_client_protocols: listed_protocols(
+            alloc,
+            recommending,
+            votes,
+            RecommendedForClients,
+        )?,
+        recommended_relay_protocols: listed_protocols(
+            alloc,
+            recommending,
+            votes,
+            RecommendedForRelays,
+        )?,
+        required_client_protocols: listed_protocols(alloc, requiring, votes, RequiredOfClients)?,
+        required_relay_protocols: listed_protocols(alloc, requiring, votes, RequiredOfRelays)?,
         params: listed_params(alloc, roster, votes)?,
     })
+}
+
+/// Half of a roster, rounded up.
+fn half_of(roster: u32) -> u64
+    ensures { result ≡ terms.half_of roster }
+{
+    (roster as u64 + 1) / 2
+}
+
+/// Two thirds of a roster, rounded up.
+fn two_thirds_of(roster: u32) -> u64
+    ensures { result ≡ terms.two_thirds_of roster }
+{
+    (2 * roster as u64 + 2) / 3
+}
+
+/// How many of these votes must at least have a number on a line of protocols, by this method and with this share of the roster.
+fn needed_votes(method: u32, share: u64, votes: &Accepted) -> u64
+    ensures { result ≡ terms.needed_votes method share votes.now.votes }
+{
+    if is_34_or_later(method) {
+        share
+    } else {
+        votes.len() as u64 / 2 + 1
+    }
 }
 
 /// The params that enough votes have.

@@ -1,4 +1,4 @@
-// The protocols that most votes list.
+// The protocols that enough votes list.
 ghost use Rattle.std.specs.Prelude.{◌≡◌, [], IfOk, unwrap_or};
 ghost use Rattle.compute_terms.specs.Lists as terms;
 ghost use Rattle.consensus_calc.specs.ListLines as lines;
@@ -18,16 +18,17 @@ pub enum ProtocolsLine {
     RequiredOfRelays,
 }
 
-/// The numbers of protocols that more than half of all votes have on a line.
+/// The numbers of protocols that at least so many votes have on a line.
 pub fn listed_protocols(
     alloc: Global,
+    least: u64,
     votes: &Accepted,
     line: ProtocolsLine,
 ) -> Result<ProtoRanges, Memory>
-    ensures { IfOk result (λ listed. listed ≡ terms.listed_protocols (lines.protocols_on line) votes.now.votes) }
+    ensures { IfOk result (λ listed. listed ≡ terms.listed_protocols least (lines.protocols_on line) votes.now.votes) }
 {
     let lists = all_on(alloc, votes, line)?;
-    field_votes::protocols(alloc, &lists)
+    field_votes::protocols(alloc, least, &lists)
 }
 
 /// What each vote has on a line, nothing where it has not the line.

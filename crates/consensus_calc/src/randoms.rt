@@ -40,14 +40,33 @@ fn votes_for(line: RandomLine, votes: &Accepted, random: &SharedRandom) -> usize
     count
 }
 
+/// Whether votes of more than half of a roster of so many authorities have a shared random value, and at least so many.
+fn is_agreed(
+    line: RandomLine,
+    roster: u32,
+    least: u64,
+    votes: &Accepted,
+    random: &SharedRandom,
+) -> bool
+    ensures { result ≡ terms.is_agreed line roster least votes.now.votes random.now }
+{
+    let count = votes_for(line, votes, random) as u64;
+    over(count, roster) && least <= count
+}
+
 /// What the consensus says on a line: the shared random value that votes of more than half of a roster of so many authorities
-/// have on it, if there is one.
-pub fn agreed_random(line: RandomLine, roster: u32, votes: &Accepted) -> Option<SharedRandom>
-    ensures { result ≡ terms.agreed_random line roster votes.now.votes }
+/// have on it, and at least so many, if there is one.
+pub fn agreed_random(
+    line: RandomLine,
+    roster: u32,
+    least: u64,
+    votes: &Accepted,
+) -> Option<SharedRandom>
+    ensures { result ≡ terms.agreed_random line roster least votes.now.votes }
 {
     'votes: for i in 0..votes.len() {
         if let Some(random) = random_of(line, votes.vote(i).vote()) {
-            if over(votes_for(line, votes, &random) as u64, roster) {
+            if is_agreed(line, roster, least, votes, &random) {
                 return Some(random);
             }
         }

@@ -3,6 +3,7 @@ ghost use Rattle.std.specs.Prelude.{◌≡◌, IfOk, map};
 ghost use Rattle.compute_terms.specs.Consensuses as terms;
 ghost use Rattle.consensus_calc.specs.Calculating.{Calculates, HasMoments};
 
+use crate::agreements::least_agreements;
 use crate::flags::known_flags;
 use crate::lists::lists_of;
 use crate::methods::chosen_method;
@@ -71,22 +72,25 @@ fn facts_of(
     ensures value { IfOk result (λ facts. facts ≡ terms.facts_of newest roster votes.now.votes) }
     ensures moments { IfOk result (λ facts. HasMoments facts) }
 {
-    let lists = lists_of(alloc, roster, votes)?;
-    let limit = unmeasured_limit(&lists.params);
-    let known_flags = known_flags(alloc, votes)?;
     let method = chosen_method(alloc, newest, votes)?;
+    let lists = lists_of(alloc, method, roster, votes)?;
+    let limit = unmeasured_limit(method, &lists.params);
+    let known_flags = known_flags(alloc, method, votes)?;
+    let valid_after = median(alloc, votes, Timing::ValidAfter)?;
+    let fresh_until = median(alloc, votes, Timing::FreshUntil)?;
+    let least = least_agreements(method, roster, &lists.params, valid_after, fresh_until);
     let routers = routers(alloc, roster, method, limit, &known_flags, votes)?;
     Ok(ConsensusFacts {
         method,
-        valid_after: median(alloc, votes, Timing::ValidAfter)?,
-        fresh_until: median(alloc, votes, Timing::FreshUntil)?,
+        valid_after,
+        fresh_until,
         valid_until: median(alloc, votes, Timing::ValidUntil)?,
         vote_seconds: median(alloc, votes, Timing::VoteSeconds)? as u32,
         dist_seconds: median(alloc, votes, Timing::DistSeconds)? as u32,
         known_flags,
         lists,
-        random_previous: agreed_random(RandomLine::Previous, roster, votes),
-        random_current: agreed_random(RandomLine::Current, roster, votes),
+        random_previous: agreed_random(RandomLine::Previous, roster, least, votes),
+        random_current: agreed_random(RandomLine::Current, roster, least, votes),
         sources: sources(alloc, votes)?,
         routers,
     })

@@ -1,5 +1,5 @@
 // The flags of a relay.
-ghost use Rattle.std.specs.Prelude.{◌≡◌, ◌<◌, ◌^◌, IfOk, OnOk, length, map};
+ghost use Rattle.std.specs.Prelude.{◌≡◌, ◌<◌, ◌^◌, IfOk, OnOk, length, map, filter};
 ghost use Rattle.dir_values.specs.FlagSets.{as_set};
 ghost use Rattle.compute_terms.specs.Listings.{AreMembers, listings_at};
 ghost use Rattle.compute_terms.specs.RelayFlags as flags;
@@ -8,6 +8,7 @@ ghost use Rattle.consensus_calc.specs.Picking as picking;
 use crate::counting::{add, zeros};
 use crate::marks::mark;
 use compute_terms::{Belong, EdPart};
+use consensus_terms::is_34_or_later;
 use dir_bytes::{Memory, Seq};
 use dir_values::FlagSet;
 use relay_select::entry_at;
@@ -111,27 +112,44 @@ fn insert_if(alloc: Global, set: &mut FlagSet, flag: &[u8], wanted: bool) -> Res
     Ok(())
 }
 
-/// The flags as they stand in the consensus: those of a relay that is to stand in the middle are adjusted.
-pub fn adjusted(alloc: Global, set: FlagSet) -> Result<FlagSet, Memory>
-    ensures { IfOk result (λ after. after ≡ flags.adjusted_flags set) }
+/// The flags as they stand in a consensus by this method that knows these: those of a relay that is to stand in the middle are
+/// adjusted.
+pub fn adjusted(
+    alloc: Global,
+    method: u32,
+    known: &FlagSet,
+    set: FlagSet,
+) -> Result<FlagSet, Memory>
+    ensures { IfOk result (λ after. after ≡ flags.adjusted_flags method known.now set) }
 {
     if set.contains(b"MiddleOnly") {
-        in_middle(alloc, &set)
+        in_middle(alloc, method, known, &set)
     } else {
         Ok(set)
     }
 }
 
 /// The flags of a relay that is to stand in the middle.
-fn in_middle(alloc: Global, set: &FlagSet) -> Result<FlagSet, Memory>
-    ensures { IfOk result (λ after. after ≡ flags.middle_flags set.now) }
+fn in_middle(alloc: Global, method: u32, known: &FlagSet, set: &FlagSet) -> Result<FlagSet, Memory>
+    ensures { IfOk result (λ after. after ≡ flags.flags_in_middle method known.now set.now) }
+{
+    let mut after = suiting(alloc, set)?;
+    if is_34_or_later(method) && !known.contains(b"BadExit") {
+        return Ok(after);
+    }
+    after.insert(alloc, b"BadExit")?;
+    Ok(after)
+}
+
+/// Those of some flags that such a relay may have.
+fn suiting(alloc: Global, set: &FlagSet) -> Result<FlagSet, Memory>
+    ensures { IfOk result (λ after. after ≡ as_set (filter flags.suits_middle set.now)) }
 {
     let mut after = FlagSet::new(alloc);
     'flags: for i in 0..set.len() {
         let flag = set.flag(i);
         insert_if(alloc, &mut after, flag, suits_middle(flag))?;
     }
-    after.insert(alloc, b"BadExit")?;
     Ok(after)
 }
 

@@ -20,7 +20,7 @@ use std::alloc::Global;
 use vote_doc::{Accepted, Entry};
 
 /// The relays that the consensus of these votes lists, ascending by identity, where the roster has so many authorities. An
-/// unmeasured bandwidth is at most `limit` where enough votes measure.
+/// unmeasured bandwidth is at most `limit`, if there is one, where enough votes measure.
 ///
 /// # Errors
 /// `Memory` is want of memory.
@@ -28,11 +28,11 @@ pub fn routers(
     alloc: Global,
     roster: u32,
     method: u32,
-    limit: u32,
+    limit: Option<u32>,
     known: &FlagSet,
     votes: &Accepted,
 ) -> Result<Seq<Routerline>, Memory>
-    requires { known.now ≡ known_flags votes.now.votes }
+    requires { known.now ≡ known_flags method votes.now.votes }
     ensures value { IfOk result (λ lines. lines ≡ terms.routers roster method limit votes.now.votes) }
     ensures moments { IfOk result (λ lines. All (λ line. line.published ≤ last_moment) lines) }
 {
@@ -104,7 +104,7 @@ fn router<'a>(
     group: &[Belong],
     desk: &mut Room<'a>,
 ) -> Result<Option<Routerline>, Memory>
-    requires known { known.now ≡ known_flags votes.now.votes }
+    requires known { known.now ≡ known_flags method votes.now.votes }
     requires table { table.now ≡ map (λ vote. map (λ flag. flags.knows flag vote) known.now) votes.now.votes }
     requires needed { needed.now ≡ map (flags.knowing_count votes.now.votes) known.now }
     requires members { AreMembers votes.now.votes group.now }
@@ -118,6 +118,7 @@ fn router<'a>(
     keep_belonging(votes, &part, group, &mut desk.members)?;
     let set = flags_of(
         alloc,
+        method,
         &part,
         votes,
         known,
@@ -144,9 +145,10 @@ fn router<'a>(
     Ok(line)
 }
 
-/// The flags of an identity with this part, to which these places belong.
+/// The flags by this method of an identity with this part, to which these places belong.
 fn flags_of(
     alloc: Global,
+    method: u32,
     part: &EdPart,
     votes: &Accepted,
     known: &FlagSet,
@@ -156,15 +158,15 @@ fn flags_of(
     marks: &mut Vec<bool>,
     counts: &mut Vec<u64>,
 ) -> Result<FlagSet, Memory>
-    requires known { known.now ≡ known_flags votes.now.votes }
+    requires known { known.now ≡ known_flags method votes.now.votes }
     requires table { table.now ≡ map (λ vote. map (λ flag. flags.knows flag vote) known.now) votes.now.votes }
     requires needed { needed.now ≡ map (flags.knowing_count votes.now.votes) known.now }
     requires members { AreMembers votes.now.votes members.now }
-    ensures { IfOk result (λ set. set ≡ flags.router_flags votes.now.votes part.now (listings_at votes.now.votes members.now)) }
+    ensures { IfOk result (λ set. set ≡ flags.router_flags method votes.now.votes part.now (listings_at votes.now.votes members.now)) }
 {
     count_setting(known, table, votes, members, marks, counts)?;
     let set = set_flags(alloc, part, known, counts, needed)?;
-    let after = adjusted(alloc, set)?;
+    let after = adjusted(alloc, method, known, set)?;
     Ok(after)
 }
 

@@ -9,7 +9,7 @@ use dir_bytes::Memory;
 /// How many relays a consensus has fewer than: with so many no machine has the memory for their votes.
 const TOO_MANY_RELAYS: usize = 4_194_304;
 
-/// The consensus that says this, with the weights that follow from its relays and its params.
+/// The consensus that says this, with the weights that follow from its method, its relays and its params.
 ///
 /// # Errors
 /// `Memory` where it has 2^22 relays or more.
@@ -20,6 +20,6 @@ pub fn weighted_consensus(facts: ConsensusFacts) -> Result<Consensus, Memory>
     if facts.routers.len() >= TOO_MANY_RELAYS {
         return Err(Memory);
     }
-    let weights = relay_weights(facts.routers.as_slice(), &facts.lists.params);
+    let weights = relay_weights(facts.method, facts.routers.as_slice(), &facts.lists.params);
     Ok(Consensus { facts, weights })
 }

@@ -52,6 +52,7 @@ abbrev pub method_entry : ℕ → ConsensusEntry
 method_entry method = record {
   keyword = the.ConsensusMethod;
   rest = decimal method;
+  spaced = false;
   object = None;
   value = λ p. value.Number method;
 }

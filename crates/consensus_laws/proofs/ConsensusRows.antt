@@ -1,6 +1,7 @@
 -- A consensus, row by row of its sections' tables: the preamble, the authorities and the footer.
-use Rattle.std.{proofs.Common.{ℕ, List, [], ◌∷◌, ◌++◌, Option, Some, refl}, specs.Prelude.{All, codes}}
+use Rattle.std.{proofs.Common.{ℕ, false, List, [], ◌∷◌, ◌++◌, Option, Some, refl}, specs.Prelude.{All, codes}}
 use Rattle.dir_values.specs.FlagSets.{set_text}
+use Rattle.list_values.specs.{Params.params_text, Protocols.protocols_text, VersionLists.versions_text}
 use Rattle.frame_terms.specs.{Keywords.same, Rows.row, declared.row.{Count.TheVariants.{Many, One, Optional}, Row.Row}}
 use Rattle.frame_terms.specs.declared.keyword.Keyword.TheVariants as the
 use Rattle.frame_values.specs.declared.values.Value.TheVariants as value
@@ -10,9 +11,9 @@ use Rattle.frame_laws.proofs.{RowValues.{row_if, silent_entry, text_entry}, Said
 use Rattle.frame_laws.proofs.Sections.{IsWritten, entries_in}
 use Rattle.group_laws.proofs.{Readings.suits_reading, SourceRows.said_rest_if, TimeRows.{Times, times_said}}
 use Rattle.group_laws.proofs.TimeRows as group
-use Rattle.consensus_terms.specs.{Signed.signer_text, declared.consensus.ConsensusFacts.ConsensusFacts}
-use Rattle.consensus_terms.specs.declared.{consensus.SourceLine.SourceLine, flavour.Flavour.Flavour}
-use Rattle.consensus_terms.specs.declared.signature.SignatureLine.{SignatureLine}
+use Rattle.consensus_terms.specs.{Methods.is_34_or_later, Signed.signer_text}
+use Rattle.consensus_terms.specs.declared.consensus.{ConsensusFacts.ConsensusFacts, SourceLine.SourceLine}
+use Rattle.consensus_terms.specs.declared.{flavour.Flavour.Flavour, signature.SignatureLine.SignatureLine}
 use Rattle.consensus_frame.specs.{Tables.consensus_tables, declared.rows.ConsensusKind.ConsensusKind}
 use Rattle.consensus_frame.specs.declared.rows.ConsensusSection.{ConsensusSection}
 use Rattle.consensus_frame.specs.declared.rows.ConsensusKind.TheVariants as kind
@@ -22,8 +23,8 @@ use Rattle.consensus_laws.specs.Again.{AreFactsInRange, IsAuthorityInRange, IsSi
 use Rattle.consensus_laws.proofs.ConsensusItems.{ConsensusEntry, ConsensusPart, ConsensusRow, SuitsConsensus, has_rests}
 use Rattle.consensus_laws.proofs.ConsensusItems.{has_signatures, has_times, method_entry, source_entry, suits_flags}
 use Rattle.consensus_laws.proofs.ConsensusItems.{vote_digest_entry, suits_method, suits_status, suits_vote_digest}
-use Rattle.consensus_laws.proofs.{ConsensusItems.version_entry, ConsensusLists.{param_rows, params_said, protocol_rows}}
-use Rattle.consensus_laws.proofs.ConsensusLists.{protocols_said, version_rows, versions_said}
+use Rattle.consensus_laws.proofs.{ConsensusItems.version_entry, ConsensusLists.{list_quiet, param_rows, params_said}}
+use Rattle.consensus_laws.proofs.ConsensusLists.{protocol_rows, protocols_said, version_rows, versions_said}
 use Rattle.consensus_laws.proofs.{ConsensusRandoms.{random_quiet, random_row, said_random}, Quiet.{both_said, is_quiet}}
 use Rattle.consensus_laws.proofs.{Quiet.{rows_quiet, text_quiet}, SignatureLines.{signature_again, signature_said}}
 
@@ -61,13 +62,12 @@ random_rows c =
 
 -- the lists behind its flags, and its shared random values
 abbrev list_rows : ConsensusFacts → List ConsensusRow
-list_rows c = protocol_rows c.lists ++ (param_rows c.lists ++ random_rows c)
+list_rows c = protocol_rows (is_34_or_later c.method) c.lists ++ (param_rows c.lists ++ random_rows c)
 
 -- its rows behind the first one
 abbrev pub preamble_rows : ConsensusFacts → List ConsensusRow
 preamble_rows c =
-    kind_rows c ++ (time_rows c ++ (version_rows c.lists ++ (flag_rows c
-    ++ (protocol_rows c.lists ++ (param_rows c.lists ++ random_rows c)))))
+    kind_rows c ++ (time_rows c ++ (version_rows (is_34_or_later c.method) c.lists ++ (flag_rows c ++ list_rows c)))
 
 abbrev pub version_row : Row ConsensusKind
 version_row = row the.NetworkStatusVersion One kind.Version
@@ -85,15 +85,16 @@ module _ (flavour : Flavour) where
       → AreSaid (consensus_tables flavour) (preamble_rows c)
   preamble_said c are =
       let tables = consensus_tables flavour in
+      let always = is_34_or_later c.method in
       both_hold (said_once tables _ _ (suits_status flavour))
       (both_hold (said_once tables _ _ (suits_method flavour c.method are.method))
-      (both_said tables (time_rows c) (version_rows c.lists ++ (flag_rows c ++ list_rows c))
+      (both_said tables (time_rows c) (version_rows always c.lists ++ (flag_rows c ++ list_rows c))
       (times_said (has_times flavour) (times_of c) are.vote_seconds are.dist_seconds)
-      (both_said tables (version_rows c.lists) (flag_rows c ++ list_rows c)
-      (versions_said flavour c.lists are.lists)
+      (both_said tables (version_rows always c.lists) (flag_rows c ++ list_rows c)
+      (versions_said flavour always c.lists are.lists)
       (both_hold (said_once tables _ _ (suits_flags flavour c.known_flags are.known_flags))
-      (both_said tables (protocol_rows c.lists) (param_rows c.lists ++ random_rows c)
-      (protocols_said flavour c.lists are.lists)
+      (both_said tables (protocol_rows always c.lists) (param_rows c.lists ++ random_rows c)
+      (protocols_said flavour always c.lists are.lists)
       (both_said tables (param_rows c.lists) (random_rows c) (params_said flavour c.lists are.lists)
       (both_hold (said_random flavour the.SharedRandPreviousValue c.random_previous are.random_previous)
       (both_hold (said_random flavour the.SharedRandCurrentValue c.random_current are.random_current) tt))))))))
@@ -111,6 +112,8 @@ module _ (flavour : Flavour) where
 -- nothing is remembered of it
 pub preamble_quiet : (flavour : Flavour) (c : ConsensusFacts) → EachPasses is_quiet (entries_in (preamble flavour c))
 preamble_quiet flavour c =
+    let l = c.lists in
+    let always = is_34_or_later c.method in
     both_hold (λ place. refl) (rows_quiet (preamble_rows c)
     (both_hold (both_hold (λ place. refl) tt)
     (both_hold (both_hold (λ place. refl) tt)
@@ -118,14 +121,14 @@ preamble_quiet flavour c =
     (both_hold (both_hold (λ place. refl) tt)
     (both_hold (both_hold (λ place. refl) tt)
     (both_hold (both_hold (λ place. refl) tt)
-    (both_hold (text_quiet the.ClientVersions _)
-    (both_hold (text_quiet the.ServerVersions _)
+    (both_hold (list_quiet always the.ClientVersions versions_text l.client_versions)
+    (both_hold (list_quiet always the.ServerVersions versions_text l.server_versions)
     (both_hold (both_hold (λ place. refl) tt)
-    (both_hold (text_quiet the.RecommendedClientProtocols _)
-    (both_hold (text_quiet the.RecommendedRelayProtocols _)
-    (both_hold (text_quiet the.RequiredClientProtocols _)
-    (both_hold (text_quiet the.RequiredRelayProtocols _)
-    (both_hold (text_quiet the.Params _)
+    (both_hold (list_quiet always the.RecommendedClientProtocols protocols_text l.recommended_client_protocols)
+    (both_hold (list_quiet always the.RecommendedRelayProtocols protocols_text l.recommended_relay_protocols)
+    (both_hold (list_quiet always the.RequiredClientProtocols protocols_text l.required_client_protocols)
+    (both_hold (list_quiet always the.RequiredRelayProtocols protocols_text l.required_relay_protocols)
+    (both_hold (list_quiet false the.Params params_text l.params)
     (both_hold (random_quiet the.SharedRandPreviousValue c.random_previous)
     (both_hold (random_quiet the.SharedRandCurrentValue c.random_current) tt)))))))))))))))))
 
@@ -181,6 +184,7 @@ abbrev pub signature_entry : SignatureLine → ConsensusEntry
 signature_entry s = record {
   keyword = the.DirectorySignature;
   rest = signer_text s;
+  spaced = false;
   object = Some (record { words = codes "SIGNATURE"; bytes = s.signature });
   value = λ p. value.Own (own.Signature (signature_said p the.DirectorySignature s));
 }

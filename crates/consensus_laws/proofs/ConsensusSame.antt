@@ -1,6 +1,7 @@
 -- The items of a consensus by its sections' rows are those of its text.
-use Rattle.std.proofs.Common.{◌≡◌, ℕ, List, [], ◌∷◌, ◌++◌, Option, Some, None, refl, sym, ap, append_assoc, append-nil}
-use Rattle.std.{proofs.{Common.◌∙◌, lemmas.List.map-append}, specs.{Prelude.{map, option_map}, List.flat_map}}
+use Rattle.std.proofs.Common.{◌≡◌, ℕ, Bool, false, List, [], ◌∷◌, ◌++◌, Option, Some, None, refl, sym, ap, append_assoc}
+use Rattle.std.{proofs.{Common.{append-nil, ◌∙◌}, lemmas.List.map-append}, specs.Prelude.{map, option_map}}
+use Rattle.std.specs.List.{flat_map}
 use Rattle.dir_values.specs.{FlagSets.set_text, declared.digest.Digest2.Digest2}
 use Rattle.dirdoc_grammar.specs.Writing.{NewItem}
 use Rattle.frame_terms.specs.declared.keyword.Keyword.{Keyword}
@@ -8,33 +9,36 @@ use Rattle.frame_terms.specs.declared.keyword.Keyword.TheVariants as the
 use Rattle.frame_values.specs.Items.{bare, item_if}
 use Rattle.frame_laws.proofs.{Entries.item_of, Following.entries_all, RowCounts.items_of-append, RowValues.items_if}
 use Rattle.frame_laws.proofs.{RowValues.{text_entry, text_entry_if}, SaidRows.items_of, Sections.entries_in}
-use Rattle.consensus_terms.specs.{Signed.{in_order, signature_item}, declared.consensus.ConsensusFacts.ConsensusFacts}
-use Rattle.consensus_terms.specs.declared.consensus.{ConsensusLists.ConsensusLists, SignedConsensus.SignedConsensus}
-use Rattle.consensus_terms.specs.declared.{consensus.SourceLine.SourceLine, flavour.Flavour.{Flavour, TheVariants.Ns}}
-use Rattle.consensus_terms.specs.declared.{flavour.Flavour.TheVariants.Microdesc, router.Bandwidth.Bandwidth}
-use Rattle.consensus_terms.specs.declared.{router.Routerline.Routerline, signature.SignatureLine.SignatureLine}
+use Rattle.consensus_terms.specs.{Methods.is_34_or_later, Signed.{in_order, signature_item}}
+use Rattle.consensus_terms.specs.declared.consensus.{ConsensusFacts.ConsensusFacts, ConsensusLists.ConsensusLists}
+use Rattle.consensus_terms.specs.declared.consensus.{SignedConsensus.SignedConsensus, SourceLine.SourceLine}
+use Rattle.consensus_terms.specs.declared.flavour.Flavour.{Flavour, TheVariants.{Ns, Microdesc}}
+use Rattle.consensus_terms.specs.declared.router.{Bandwidth.Bandwidth, Routerline.Routerline}
+use Rattle.consensus_terms.specs.declared.signature.SignatureLine.{SignatureLine}
 use Rattle.consensus_frame.specs.declared.value.ConsensusValue.{ConsensusValue}
 use Rattle.consensus_laws.specs.Items.{consensus_items, footer_items, kind_items, listed, m_text, p_text}
 use Rattle.consensus_laws.specs.Items.{preamble_items, random_items, protocol_items, router_items, source_items}
 use Rattle.consensus_laws.specs.Items.{time_items, unsigned_items, version_items, w_text, words_item, router_words}
-use Rattle.consensus_laws.{specs.Items.list_if, proofs.ConsensusItems.{ConsensusEntry, ConsensusRow}}
-use Rattle.consensus_laws.proofs.{ConsensusLists.{param_rows, protocol_rows, version_rows}, ConsensusRows.flag_rows}
-use Rattle.consensus_laws.proofs.ConsensusRows.{footer, kind_rows, preamble, signature_entry, source_section}
+use Rattle.consensus_laws.{specs.Items.list_items, proofs.ConsensusItems.{ConsensusEntry, ConsensusRow}}
+use Rattle.consensus_laws.proofs.ConsensusLists.{list_items_are, param_rows, protocol_rows, version_rows}
+use Rattle.consensus_laws.proofs.ConsensusRows.{flag_rows, footer, kind_rows, preamble, signature_entry, source_section}
 use Rattle.consensus_laws.proofs.{ConsensusRows.{random_rows, time_rows}, ConsensusRandoms.random_items_are}
 use Rattle.consensus_laws.proofs.RouterRows.{m_entries, router_section, w_entries}
 use Rattle.list_values.specs.Params.{params_text}
 
 -- ---- the preamble
 
-versions_same : (lists : ConsensusLists) → version_items lists ≡ items_of (version_rows lists)
-versions_same lists = simp (items_if, map-append, append-nil) refl
+versions_same : (always : Bool) (lists : ConsensusLists)
+    → version_items always lists ≡ items_of (version_rows always lists)
+versions_same always lists = simp (list_items_are, map-append, append-nil) refl
 
-protocols_same : (lists : ConsensusLists) → protocol_items lists ≡ items_of (protocol_rows lists)
-protocols_same lists = simp (items_if, map-append, append-nil, append_assoc) refl
+protocols_same : (always : Bool) (lists : ConsensusLists)
+    → protocol_items always lists ≡ items_of (protocol_rows always lists)
+protocols_same always lists = simp (list_items_are, map-append, append-nil, append_assoc) refl
 
 params_same : (lists : ConsensusLists)
-    → item_if the.Params (list_if params_text lists.params) ≡ items_of (param_rows lists)
-params_same lists = simp (items_if, append-nil) refl
+    → list_items false the.Params params_text lists.params ≡ items_of (param_rows lists)
+params_same lists = simp (list_items_are, append-nil) refl
 
 randoms_same : (c : ConsensusFacts) → random_items c ≡ items_of (random_rows c)
 randoms_same c = simp (random_items_are, map-append, append-nil) refl
@@ -51,15 +55,16 @@ preamble_same flavour c =
     let kinds = kind_items flavour c.method in
     let time = time_items c in
     let flags = bare the.KnownFlags (set_text c.known_flags) ∷ [] in
-    let v = versions_same c.lists in
-    let p = protocols_same c.lists in
+    let always = is_34_or_later c.method in
+    let v = versions_same always c.lists in
+    let p = protocols_same always c.lists in
     let m = params_same c.lists in
     let r = randoms_same c in
-    in_a_row kinds time (version_items c.lists) flags (protocol_items c.lists)
-    (item_if the.Params (list_if params_text c.lists.params)) (random_items c)
+    in_a_row kinds time (version_items always c.lists) flags (protocol_items always c.lists)
+    (list_items false the.Params params_text c.lists.params) (random_items c)
     ∙ (λ i. kinds ++ (time ++ (v i ++ (flags ++ (p i ++ (m i ++ r i))))))
     ∙ ap (λ (l : List NewItem). first ∷ l)
-    (sym (by_rows (kind_rows c) (time_rows c) (version_rows c.lists) (flag_rows c) (protocol_rows c.lists)
+    (sym (by_rows (kind_rows c) (time_rows c) (version_rows always c.lists) (flag_rows c) (protocol_rows always c.lists)
     (param_rows c.lists) (random_rows c)))
   where
     in_a_row : (k t v f p m r : List NewItem)

@@ -11,8 +11,8 @@ use Rattle.frame_laws.proofs.{RowValues.{text_if_said, text_said}, SaidRows.row_
 use Rattle.frame_laws.proofs.StandingParts.{rest_part}
 use Rattle.group_laws.{specs.LineAgain.AreFlagsInRange, proofs.{WrittenDelays.flags_again, SourceRows.SourceIs}}
 use Rattle.group_laws.proofs.SourceRows.{source_back}
-use Rattle.consensus_terms.specs.declared.consensus.{ConsensusFacts.ConsensusFacts, SourceLine.SourceLine}
-use Rattle.consensus_terms.specs.declared.flavour.Flavour.{Flavour}
+use Rattle.consensus_terms.specs.{Methods.is_34_or_later, declared.consensus.ConsensusFacts.ConsensusFacts}
+use Rattle.consensus_terms.specs.declared.{consensus.SourceLine.SourceLine, flavour.Flavour.Flavour}
 use Rattle.consensus_frame.specs.declared.{rows.ConsensusKind.ConsensusKind, value.ConsensusValue.ConsensusValue}
 use Rattle.consensus_doc.specs.{Drafts.{flags_in, lists_of, method_of, preamble_facts, source_of}, Saying.delays_in}
 use Rattle.consensus_doc.specs.Saying.{source_in, vote_digest_in}
@@ -45,6 +45,7 @@ module _ {limit : ℕ} {bytes : List ℕ} {taken : List (Taken (Value ConsensusV
   unfolding same
   preamble_says flavour c are read =
       let l = c.lists in
+      let always = is_34_or_later c.method in
       let method =
       ap (λ (o : Option ConsensusTaken). method_of (number_in o)) (item_of_row (row_read the.ConsensusMethod read refl))
       ∙ whole_method c.method are.method in
@@ -52,22 +53,22 @@ module _ {limit : ℕ} {bytes : List ℕ} {taken : List (Taken (Value ConsensusV
       let lists : lists_of bytes taken ≡ l =
       λ i. record {
         client_versions =
-            versions_back the.ClientVersions l.client_versions are.lists.client_versions
+            versions_back always the.ClientVersions l.client_versions are.lists.client_versions
             (row_read the.ClientVersions read refl) i;
         server_versions =
-            versions_back the.ServerVersions l.server_versions are.lists.server_versions
+            versions_back always the.ServerVersions l.server_versions are.lists.server_versions
             (row_read the.ServerVersions read refl) i;
         recommended_client_protocols =
-            protocols_back the.RecommendedClientProtocols l.recommended_client_protocols
+            protocols_back always the.RecommendedClientProtocols l.recommended_client_protocols
             are.lists.recommended_client_protocols (row_read the.RecommendedClientProtocols read refl) i;
         recommended_relay_protocols =
-            protocols_back the.RecommendedRelayProtocols l.recommended_relay_protocols
+            protocols_back always the.RecommendedRelayProtocols l.recommended_relay_protocols
             are.lists.recommended_relay_protocols (row_read the.RecommendedRelayProtocols read refl) i;
         required_client_protocols =
-            protocols_back the.RequiredClientProtocols l.required_client_protocols
+            protocols_back always the.RequiredClientProtocols l.required_client_protocols
             are.lists.required_client_protocols (row_read the.RequiredClientProtocols read refl) i;
         required_relay_protocols =
-            protocols_back the.RequiredRelayProtocols l.required_relay_protocols
+            protocols_back always the.RequiredRelayProtocols l.required_relay_protocols
             are.lists.required_relay_protocols (row_read the.RequiredRelayProtocols read refl) i;
         params = params_back l.params are.lists.params (row_read the.Params read refl) i;
       } in

@@ -13,18 +13,18 @@ use Rattle.frame_laws.proofs.Words.{length-word, word_of_identity, word_of_nickn
 use Rattle.list_values.specs.{Params.params_text, VersionLists.versions_text, Protocols.protocols_text}
 use Rattle.group_laws.{proofs.WrittenMicros.word_of_thirty_two, specs.LineAgain.AreFlagsInRange}
 use Rattle.value_groups.specs.Values.{random_text}
-use Rattle.consensus_terms.specs.{Lines.{line, named_text}, Routers.{is_listed, listed_lines, unmeasured_words}}
-use Rattle.consensus_terms.specs.Signed.{in_order, signature_item, signature_text, signature_texts, signed}
-use Rattle.consensus_terms.specs.Texts.{body, facts_text, source_words, version_words}
-use Rattle.consensus_terms.specs.declared.consensus.{ConsensusFacts.ConsensusFacts, ConsensusLists.ConsensusLists}
-use Rattle.consensus_terms.specs.declared.consensus.{SignedConsensus.SignedConsensus, SourceLine.SourceLine}
-use Rattle.consensus_terms.specs.declared.flavour.Flavour.{Flavour, TheVariants.{Ns, Microdesc}}
-use Rattle.consensus_terms.specs.declared.router.{Bandwidth.Bandwidth, Routerline.Routerline}
-use Rattle.consensus_terms.specs.declared.signature.SignatureLine.{SignatureLine}
+use Rattle.consensus_terms.specs.{Lines.{line, named_text}, Methods.is_34_or_later, Routers.{is_listed, listed_lines}}
+use Rattle.consensus_terms.specs.{Routers.unmeasured_words, Signed.{in_order, signature_item, signature_text}}
+use Rattle.consensus_terms.specs.{Signed.{signature_texts, signed}, Texts.{body, facts_text, source_words}}
+use Rattle.consensus_terms.specs.{Texts.version_words, declared.consensus.ConsensusFacts.ConsensusFacts}
+use Rattle.consensus_terms.specs.declared.consensus.{ConsensusLists.ConsensusLists, SignedConsensus.SignedConsensus}
+use Rattle.consensus_terms.specs.declared.{consensus.SourceLine.SourceLine, flavour.Flavour.{Flavour, TheVariants.Ns}}
+use Rattle.consensus_terms.specs.declared.{flavour.Flavour.TheVariants.Microdesc, router.Bandwidth.Bandwidth}
+use Rattle.consensus_terms.specs.declared.{router.Routerline.Routerline, signature.SignatureLine.SignatureLine}
 use Rattle.consensus_terms.specs.Routers as lines
 use Rattle.consensus_terms.specs.Texts as texts
 use Rattle.consensus_laws.specs.Again.{AreFactsInRange, AreListsInRange, IsAuthorityInRange, IsMicroInRange}
-use Rattle.consensus_laws.specs.{Again.IsRouterInRange, Items.{consensus_items, footer_items, kind_items, list_if}}
+use Rattle.consensus_laws.specs.{Again.IsRouterInRange, Items.{consensus_items, footer_items, kind_items, list_items}}
 use Rattle.consensus_laws.specs.Items.{listed, m_text, p_text, preamble_items, protocol_items, router_items}
 use Rattle.consensus_laws.specs.Items.{router_words, source_items, random_items, time_items, unsigned_items}
 use Rattle.consensus_laws.{specs.Items.{version_items, w_text, words_item}, proofs.LineTexts.{filled_words, lines_are}}
@@ -82,26 +82,28 @@ times_are flavour c are =
     (moment_item the.ValidUntil c.valid_until ∷ [])
     (words_item the.VotingDelay (decimal c.vote_seconds ∷ decimal c.dist_seconds ∷ []) ∷ []))
 
-version_lists_are : (lists : ConsensusLists) → AreListsInRange lists
-    → texts.version_lines lists ≡ items_text (version_items lists)
-version_lists_are lists are =
-    (λ i. versions_are the.ClientVersions lists.client_versions are.client_versions.each i
-    ++ versions_are the.ServerVersions lists.server_versions are.server_versions.each i)
-    ∙ sym (two_texts (item_if the.ClientVersions (list_if versions_text lists.client_versions))
-    (item_if the.ServerVersions (list_if versions_text lists.server_versions)))
+version_lists_are : (always : Bool) (lists : ConsensusLists) → AreListsInRange lists
+    → texts.version_lines always lists ≡ items_text (version_items always lists)
+version_lists_are always lists are =
+    (λ i. versions_are always the.ClientVersions lists.client_versions are.client_versions.each i
+    ++ versions_are always the.ServerVersions lists.server_versions are.server_versions.each i)
+    ∙ sym (two_texts (list_items always the.ClientVersions versions_text lists.client_versions)
+    (list_items always the.ServerVersions versions_text lists.server_versions))
 
-protocol_lists_are : (lists : ConsensusLists) → texts.protocol_lines lists ≡ items_text (protocol_items lists)
-protocol_lists_are lists =
+protocol_lists_are : (always : Bool) (lists : ConsensusLists)
+    → texts.protocol_lines always lists ≡ items_text (protocol_items always lists)
+protocol_lists_are always lists =
     let rc = lists.recommended_client_protocols in
     let rr = lists.recommended_relay_protocols in
     let qc = lists.required_client_protocols in
     let qr = lists.required_relay_protocols in
-    (λ i. protocols_are the.RecommendedClientProtocols rc i ++ protocols_are the.RecommendedRelayProtocols rr i
-    ++ protocols_are the.RequiredClientProtocols qc i ++ protocols_are the.RequiredRelayProtocols qr i)
-    ∙ sym (four_texts (item_if the.RecommendedClientProtocols (list_if protocols_text rc))
-    (item_if the.RecommendedRelayProtocols (list_if protocols_text rr))
-    (item_if the.RequiredClientProtocols (list_if protocols_text qc))
-    (item_if the.RequiredRelayProtocols (list_if protocols_text qr)))
+    (λ i. protocols_are always the.RecommendedClientProtocols rc i
+    ++ protocols_are always the.RecommendedRelayProtocols rr i
+    ++ protocols_are always the.RequiredClientProtocols qc i ++ protocols_are always the.RequiredRelayProtocols qr i)
+    ∙ sym (four_texts (list_items always the.RecommendedClientProtocols protocols_text rc)
+    (list_items always the.RecommendedRelayProtocols protocols_text rr)
+    (list_items always the.RequiredClientProtocols protocols_text qc)
+    (list_items always the.RequiredRelayProtocols protocols_text qr))
 
 -- the shared random values
 randoms_are : (c : ConsensusFacts) → texts.random_lines c ≡ items_text (random_items c)
@@ -121,12 +123,13 @@ preamble_is : (flavour : Flavour) (c : ConsensusFacts) → AreFactsInRange flavo
 preamble_is flavour c are =
     let k = kind_items flavour c.method in
     let t = time_items c in
-    let v = version_items c.lists in
+    let always = is_34_or_later c.method in
+    let v = version_items always c.lists in
     let f = bare the.KnownFlags (set_text c.known_flags) ∷ [] in
-    let p = protocol_items c.lists in
-    let m = item_if the.Params (list_if params_text c.lists.params) in
-    (λ i. kinds_are flavour c.method i ++ times_are flavour c are i ++ version_lists_are c.lists are.lists i
-    ++ flags_are the.KnownFlags c.known_flags are.known_flags i ++ protocol_lists_are c.lists i
+    let p = protocol_items always c.lists in
+    let m = list_items false the.Params params_text c.lists.params in
+    (λ i. kinds_are flavour c.method i ++ times_are flavour c are i ++ version_lists_are always c.lists are.lists i
+    ++ flags_are the.KnownFlags c.known_flags are.known_flags i ++ protocol_lists_are always c.lists i
     ++ params_are the.Params c.lists.params i ++ randoms_are c i)
     ∙ sym (sections (k ++ t ++ v ++ f ++ p ++ m) (random_items c)
     ∙ ap (λ (l : List ℕ). l ++ items_text (random_items c)) (sections (k ++ t ++ v ++ f ++ p) m

@@ -1,6 +1,7 @@
 -- The signed part of a text with signatures, and the text of a consensus that was computed.
-use Rattle.std.proofs.Common.{◌≡◌, ℕ, ◌<◌, List, [], ◌∷◌, ◌++◌, length, take, Some, Ok, refl, sym, ap, ◌∙◌}
-use Rattle.std.{proofs.{Common.{append_assoc, arith}, lemmas.List.take_at}, specs.{Prelude.codes, List.join_with_byte}}
+use Rattle.std.proofs.Common.{◌≡◌, ℕ, ◌<◌, List, [], ◌∷◌, ◌++◌, length, take, Option, Some, None, Ok, refl, sym, ap}
+use Rattle.std.{proofs.{Common.{◌∙◌, append_assoc, arith}, lemmas.List.take_at}, specs.Prelude.{codes, option_map}}
+use Rattle.std.specs.List.{join_with_byte}
 use Rattle.dirdoc_grammar.specs.Bodies.{object_text}
 use Rattle.frame_terms.specs.declared.keyword.Keyword.TheVariants as the
 use Rattle.bw_weights.specs.declared.position_weights.Weights.{Weights}
@@ -46,8 +47,10 @@ weight_some : (n : ℕ) → 0 < length (named_text (codes "Wbd") n)
 unfolding named_text
 weight_some n = omega arith
 
-footer_same : (w : Weights) → footer w ≡ footer_as_read (Some (join_with_byte 32 (weight_words w)))
-footer_same w =
+footer_same : (w : Option Weights)
+    → footer w ≡ footer_as_read (option_map (λ (w : Weights). join_with_byte 32 (weight_words w)) w)
+footer_same None = refl
+footer_same (Some w) =
     ap (λ (l : List ℕ). line (codes "directory-footer") [] ++ l)
     (lines_are the.BandwidthWeights (weight_words w) (weight_some w.wmd)
     ∙ sym (rest_is the.BandwidthWeights (Some (join_with_byte 32 (weight_words w)))))

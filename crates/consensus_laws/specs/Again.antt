@@ -1,6 +1,8 @@
 -- A consensus that was written is read again (dir-spec, "Vote and consensus status document formats").
 use Rattle.std.specs.Prelude.{◌≡◌, ℕ, ◌<◌, ◌≤◌, ◌^◌, ◌||◌, Bool, true, List, [], ◌∷◌, length, All, IfSome, Option, Some}
-use Rattle.std.specs.{Prelude.{None, AllPairs, Ok, codes, map, take}, List.{filter, join_with_byte}, Str.bytes_eq}
+use Rattle.std.specs.{Prelude.{None, AllPairs, Ok, codes, map, option_map, take}, List.{filter, join_with_byte}}
+use Rattle.std.specs.Str.{bytes_eq}
+use Rattle.bw_weights.specs.declared.position_weights.Weights.{Weights}
 use Rattle.item_terms.specs.Bytes.{space}
 use Rattle.dir_bytes.specs.Causes.{last_moment}
 use Rattle.dir_values.specs.{Digests.{fingerprint, identity_below}, Names.is_nickname, declared.digest.Digest1.Digest1}
@@ -164,7 +166,7 @@ abbrev pub with_signatures : Flavour → Consensus → List SignatureLine → Si
 with_signatures flavour c lines = record {
   flavour = flavour;
   facts = facts_in flavour c.facts;
-  weights = Some (join_with_byte space (weight_words c.weights));
+  weights = option_map (λ (weights : Weights). join_with_byte space (weight_words weights)) c.weights;
   signatures = lines;
   signed = None;
 }

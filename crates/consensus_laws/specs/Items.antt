@@ -1,31 +1,32 @@
 -- The items that the text of a consensus has (dir-spec, "Vote and consensus status document formats").
-use Rattle.std.specs.{Prelude.{ℕ, List, [], ◌∷◌, ◌++◌, Option, None, option_map, codes, decimal, map}, List.filter}
-use Rattle.std.specs.List.{flat_map, join_with_byte}
+use Rattle.std.specs.Prelude.{ℕ, Bool, true, false, List, [], ◌∷◌, ◌++◌, Option, None, option_map, codes, decimal, map}
+use Rattle.std.specs.List.{filter, flat_map, join_with_byte}
 use Rattle.item_terms.specs.Bytes.{space}
 use Rattle.dir_bytes.specs.FieldTexts.{base64_text, hex_text}
 use Rattle.dir_values.specs.{FlagSets.set_text, declared.digest.Digest2.Digest2}
 use Rattle.dirdoc_grammar.specs.Writing.{NewItem}
 use Rattle.frame_terms.specs.declared.keyword.Keyword.{Keyword}
 use Rattle.frame_terms.specs.declared.keyword.Keyword.TheVariants as the
-use Rattle.frame_values.specs.Items.{bare, item_if, moment_item}
-use Rattle.group_laws.specs.Lists.{some_list}
+use Rattle.frame_values.specs.Items.{bare, item_if, moment_item, spaced_item}
 use Rattle.value_groups.specs.Values.{random_text}
 use Rattle.list_values.specs.{Params.params_text, Protocols.protocols_text, VersionLists.versions_text}
-use Rattle.consensus_terms.specs.{Lines.named_text, Routers.{digest_words, is_listed, name_words, place_words}}
-use Rattle.consensus_terms.specs.{Routers.unmeasured_words, Signed.{in_order, signature_item}, Texts.source_words}
-use Rattle.consensus_terms.specs.{Texts.version_words, declared.consensus.ConsensusFacts.ConsensusFacts}
-use Rattle.consensus_terms.specs.declared.consensus.{ConsensusLists.ConsensusLists, SignedConsensus.SignedConsensus}
-use Rattle.consensus_terms.specs.declared.{consensus.SourceLine.SourceLine, flavour.Flavour.{Flavour, TheVariants.Ns}}
-use Rattle.consensus_terms.specs.declared.{flavour.Flavour.TheVariants.Microdesc, router.Bandwidth.Bandwidth}
-use Rattle.consensus_terms.specs.declared.router.Routerline.{Routerline}
+use Rattle.consensus_terms.specs.{Lines.named_text, Methods.is_34_or_later, Routers.{digest_words, is_listed}}
+use Rattle.consensus_terms.specs.{Routers.{name_words, place_words, unmeasured_words}, Signed.in_order}
+use Rattle.consensus_terms.specs.{Signed.signature_item, Texts.{source_words, version_words}}
+use Rattle.consensus_terms.specs.declared.consensus.{ConsensusFacts.ConsensusFacts, ConsensusLists.ConsensusLists}
+use Rattle.consensus_terms.specs.declared.consensus.{SignedConsensus.SignedConsensus, SourceLine.SourceLine}
+use Rattle.consensus_terms.specs.declared.flavour.Flavour.{Flavour, TheVariants.{Ns, Microdesc}}
+use Rattle.consensus_terms.specs.declared.router.{Bandwidth.Bandwidth, Routerline.Routerline}
 
 -- an item whose line has these words
 abbrev pub words_item : Keyword → List (List ℕ) → NewItem
 words_item keyword words = bare keyword (join_with_byte space words)
 
--- the text of a list, where it is not empty
-abbrev pub list_if : {X : Type 0} → (List X → List ℕ) → List X → Option (List ℕ)
-list_if text_of list = option_map text_of (some_list list)
+-- the item of a list; of an empty one a keyword and a space, where such items always stand, else none
+abbrev pub list_items : {X : Type 0} → Bool → Keyword → (List X → List ℕ) → List X → List NewItem
+list_items always keyword text_of (first ∷ rest) = bare keyword (text_of (first ∷ rest)) ∷ []
+list_items true keyword text_of [] = spaced_item keyword ∷ []
+list_items false keyword text_of [] = []
 
 -- ---- the preamble
 
@@ -42,18 +43,18 @@ time_items c =
     ∷ words_item the.VotingDelay (decimal c.vote_seconds ∷ decimal c.dist_seconds ∷ []) ∷ []
 
 -- the versions of Tor
-abbrev pub version_items : ConsensusLists → List NewItem
-version_items lists =
-    item_if the.ClientVersions (list_if versions_text lists.client_versions)
-    ++ item_if the.ServerVersions (list_if versions_text lists.server_versions)
+abbrev pub version_items : Bool → ConsensusLists → List NewItem
+version_items always lists =
+    list_items always the.ClientVersions versions_text lists.client_versions
+    ++ list_items always the.ServerVersions versions_text lists.server_versions
 
 -- the versions of protocols
-abbrev pub protocol_items : ConsensusLists → List NewItem
-protocol_items lists =
-    item_if the.RecommendedClientProtocols (list_if protocols_text lists.recommended_client_protocols)
-    ++ item_if the.RecommendedRelayProtocols (list_if protocols_text lists.recommended_relay_protocols)
-    ++ item_if the.RequiredClientProtocols (list_if protocols_text lists.required_client_protocols)
-    ++ item_if the.RequiredRelayProtocols (list_if protocols_text lists.required_relay_protocols)
+abbrev pub protocol_items : Bool → ConsensusLists → List NewItem
+protocol_items always lists =
+    list_items always the.RecommendedClientProtocols protocols_text lists.recommended_client_protocols
+    ++ list_items always the.RecommendedRelayProtocols protocols_text lists.recommended_relay_protocols
+    ++ list_items always the.RequiredClientProtocols protocols_text lists.required_client_protocols
+    ++ list_items always the.RequiredRelayProtocols protocols_text lists.required_relay_protocols
 
 -- the shared random values
 abbrev pub random_items : ConsensusFacts → List NewItem
@@ -64,9 +65,9 @@ random_items c =
 -- the preamble
 abbrev pub preamble_items : Flavour → ConsensusFacts → List NewItem
 preamble_items flavour c =
-    kind_items flavour c.method ++ time_items c ++ version_items c.lists
-    ++ bare the.KnownFlags (set_text c.known_flags) ∷ [] ++ protocol_items c.lists
-    ++ item_if the.Params (list_if params_text c.lists.params) ++ random_items c
+    kind_items flavour c.method ++ time_items c ++ version_items (is_34_or_later c.method) c.lists
+    ++ bare the.KnownFlags (set_text c.known_flags) ∷ [] ++ protocol_items (is_34_or_later c.method) c.lists
+    ++ list_items false the.Params params_text c.lists.params ++ random_items c
 
 -- ---- the authorities
 

@@ -1,4 +1,5 @@
 pub mod Lines
+pub mod Methods
 pub mod Moments
 pub mod Routers
 pub mod Weights

@@ -1,5 +1,5 @@
 -- The lines of a consensus (dir-spec, meta-format).
-use Rattle.std.specs.{Prelude.{ℕ, List, [], ◌∷◌, ◌++◌, Option, Some, None, decimal}, List.flat_map}
+use Rattle.std.specs.{Prelude.{ℕ, Bool, true, false, List, [], ◌∷◌, ◌++◌, Option, Some, None, decimal}, List.flat_map}
 use Rattle.item_terms.specs.Bytes.{space, line_feed}
 use Rattle.list_values.specs.Equations.{equals}
 
@@ -15,6 +15,11 @@ line keyword words = keyword ++ flat_map behind_space words ++ line_feed ∷ []
 abbrev pub list_line : {X : Type 0} → (List X → List ℕ) → List ℕ → List X → List ℕ
 list_line text_of keyword [] = []
 list_line text_of keyword (first ∷ rest) = line keyword (text_of (first ∷ rest) ∷ [])
+
+-- the same, or where such lines always stand the line of any list: that of an empty one is the keyword and a space
+abbrev pub list_line_by : {X : Type 0} → Bool → (List X → List ℕ) → List ℕ → List X → List ℕ
+list_line_by false text_of keyword list = list_line text_of keyword list
+list_line_by true text_of keyword list = line keyword (text_of list ∷ [])
 
 -- the arguments that the rest of a line has: none where it is empty
 abbrev pub rest_words : List ℕ → List (List ℕ)

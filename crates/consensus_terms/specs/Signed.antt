@@ -1,5 +1,6 @@
 -- The signatures of a consensus (dir-spec, "Vote and consensus status document formats").
-use Rattle.std.specs.{Prelude.{ℕ, List, [], ◌∷◌, ◌++◌, Some, codes, if◌then◌else◌}, List.{fold, flat_map}, Str.bytes_eq}
+use Rattle.std.specs.{Prelude.{ℕ, false, List, [], ◌∷◌, ◌++◌, Some, codes, if◌then◌else◌}, List.{fold, flat_map}}
+use Rattle.std.specs.Str.{bytes_eq}
 use Rattle.sha1.specs.Sha1.{sha1}
 use Rattle.sha2.specs.Sha256.{sha256}
 use Rattle.item_terms.specs.Bytes.{space}
@@ -48,6 +49,7 @@ abbrev pub signature_item : SignatureLine → NewItem
 signature_item line = record {
   keyword = codes "directory-signature";
   arguments = signer_text line;
+  spaced = false;
   object = Some (record { words = codes "SIGNATURE"; bytes = line.signature });
 }
 

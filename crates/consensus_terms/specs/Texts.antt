@@ -1,5 +1,5 @@
 -- The text of a consensus without its signatures (dir-spec, "Vote and consensus status document formats").
-use Rattle.std.specs.{Prelude.{ℕ, List, [], ◌∷◌, ◌++◌, Option, Some, None, codes, decimal}, List.flat_map}
+use Rattle.std.specs.{Prelude.{ℕ, Bool, List, [], ◌∷◌, ◌++◌, Option, Some, None, codes, decimal}, List.flat_map}
 use Rattle.bw_weights.specs.declared.position_weights.Weights.{Weights}
 use Rattle.dir_bytes.specs.FieldTexts.{moment_text, hex_text, address_text}
 use Rattle.list_values.specs.{Params.params_text, Protocols.protocols_text, VersionLists.versions_text}
@@ -8,7 +8,8 @@ use Rattle.consensus_terms.specs.declared.consensus.{Consensus.Consensus, Consen
 use Rattle.consensus_terms.specs.declared.consensus.{ConsensusLists.ConsensusLists, SignedConsensus.SignedConsensus}
 use Rattle.consensus_terms.specs.declared.{consensus.SourceLine.SourceLine, flavour.Flavour.{Flavour, TheVariants.Ns}}
 use Rattle.consensus_terms.specs.{declared.flavour.Flavour.TheVariants.Microdesc, Flavours.facts_in, Lines.line}
-use Rattle.consensus_terms.specs.{Lines.{list_line, rest_line}, Routers.listed_lines, Weights.weight_words}
+use Rattle.consensus_terms.specs.{Lines.{list_line, list_line_by, rest_line}, Methods.is_34_or_later}
+use Rattle.consensus_terms.specs.{Routers.listed_lines, Weights.weight_words}
 
 -- ---- the preamble
 
@@ -32,19 +33,19 @@ time_lines c =
     ++ line (codes "valid-until") (moment_text c.valid_until ∷ [])
     ++ line (codes "voting-delay") (decimal c.vote_seconds ∷ decimal c.dist_seconds ∷ [])
 
--- the versions that are recommended to clients and to relays, where there are some
-abbrev pub version_lines : ConsensusLists → List ℕ
-version_lines lists =
-    list_line versions_text (codes "client-versions") lists.client_versions
-    ++ list_line versions_text (codes "server-versions") lists.server_versions
+-- the versions that are recommended to clients and to relays, where there are some, or always
+abbrev pub version_lines : Bool → ConsensusLists → List ℕ
+version_lines always lists =
+    list_line_by always versions_text (codes "client-versions") lists.client_versions
+    ++ list_line_by always versions_text (codes "server-versions") lists.server_versions
 
--- the four lists of protocols, each where it is not empty
-abbrev pub protocol_lines : ConsensusLists → List ℕ
-protocol_lines lists =
-    list_line protocols_text (codes "recommended-client-protocols") lists.recommended_client_protocols
-    ++ list_line protocols_text (codes "recommended-relay-protocols") lists.recommended_relay_protocols
-    ++ list_line protocols_text (codes "required-client-protocols") lists.required_client_protocols
-    ++ list_line protocols_text (codes "required-relay-protocols") lists.required_relay_protocols
+-- the four lists of protocols, each where it is not empty, or always
+abbrev pub protocol_lines : Bool → ConsensusLists → List ℕ
+protocol_lines always lists =
+    list_line_by always protocols_text (codes "recommended-client-protocols") lists.recommended_client_protocols
+    ++ list_line_by always protocols_text (codes "recommended-relay-protocols") lists.recommended_relay_protocols
+    ++ list_line_by always protocols_text (codes "required-client-protocols") lists.required_client_protocols
+    ++ list_line_by always protocols_text (codes "required-relay-protocols") lists.required_relay_protocols
 
 -- the line of a shared random value, where there is one
 abbrev pub random_line : List ℕ → Option SharedRandom → List ℕ
@@ -57,11 +58,12 @@ random_lines c =
     random_line (codes "shared-rand-previous-value") c.random_previous
     ++ random_line (codes "shared-rand-current-value") c.random_current
 
--- the preamble
+-- the preamble: the lines of versions and of protocols always stand from method 34 on
 abbrev pub preamble : Flavour → ConsensusFacts → List ℕ
 preamble flavour c =
-    kind_lines flavour c.method ++ time_lines c ++ version_lines c.lists ++ line (codes "known-flags") c.known_flags
-    ++ protocol_lines c.lists ++ list_line params_text (codes "params") c.lists.params ++ random_lines c
+    kind_lines flavour c.method ++ time_lines c ++ version_lines (is_34_or_later c.method) c.lists
+    ++ line (codes "known-flags") c.known_flags ++ protocol_lines (is_34_or_later c.method) c.lists
+    ++ list_line params_text (codes "params") c.lists.params ++ random_lines c
 
 -- ---- the authorities
 
@@ -84,9 +86,14 @@ source_lines source =
 unfoldable pub body : Flavour → ConsensusFacts → List ℕ
 body flavour c = preamble flavour c ++ flat_map source_lines c.sources ++ flat_map (listed_lines flavour) c.routers
 
+-- the line of the weights, where they stand
+abbrev pub weights_line : Option Weights → List ℕ
+weights_line None = []
+weights_line (Some weights) = line (codes "bandwidth-weights") (weight_words weights)
+
 -- the footer, up to the signatures
-abbrev pub footer : Weights → List ℕ
-footer weights = line (codes "directory-footer") [] ++ line (codes "bandwidth-weights") (weight_words weights)
+abbrev pub footer : Option Weights → List ℕ
+footer weights = line (codes "directory-footer") [] ++ weights_line weights
 
 -- the text without signatures
 unfoldable pub unsigned : Flavour → Consensus → List ℕ

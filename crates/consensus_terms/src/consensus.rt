@@ -8,7 +8,8 @@ use dir_values::{Digest1, Fingerprint, FlagSet};
 use list_values::{Params, ProtoRanges, VersionList};
 use value_groups::SharedRandom;
 
-/// What the lines of a consensus's preamble say that are lists of values. An empty list has no line.
+/// What the lines of a consensus's preamble say that are lists of values. An empty list has no line, or from method 34 on, but for
+/// the params, one without arguments.
 #[derive(Debug, Drop)]
 pub struct ConsensusLists {
     /// The versions that are recommended to clients, ascending.
@@ -62,8 +63,8 @@ pub struct ConsensusFacts {
 pub struct Consensus {
     /// What it says.
     pub facts: ConsensusFacts,
-    /// Its weights of bandwidth.
-    pub weights: Weights,
+    /// Its weights of bandwidth, where they stand in a line.
+    pub weights: Option<Weights>,
 }
 
 /// A consensus that was read.

@@ -3,11 +3,13 @@
 
 mod consensus;
 mod flavour;
+mod methods;
 mod router;
 mod signature;
 
 pub use bw_weights::Weights;
 pub use consensus::{Consensus, ConsensusFacts, ConsensusLists, SignedConsensus, SourceLine};
 pub use flavour::Flavour;
+pub use methods::is_34_or_later;
 pub use router::{Bandwidth, Routerline};
 pub use signature::{Digests, SignatureLine};

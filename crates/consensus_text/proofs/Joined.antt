@@ -1,9 +1,9 @@
 -- Lines, one word after another.
-use Rattle.std.proofs.Common.{◌≡◌, ℕ, List, [], ◌∷◌, ◌++◌, length, true, false, append_assoc, refl, arith}
-use Rattle.std.{proofs.lemmas.{Bool.{eqb-true, true≢false}, Grind.flat_map-append, List.append-nil}, specs.Prelude.◌==◌}
-use Rattle.std.specs.List.{flat_map}
+use Rattle.std.proofs.Common.{◌≡◌, ℕ, List, [], ◌∷◌, ◌++◌, length, Bool, true, false, sym, append_assoc, refl, arith}
+use Rattle.std.proofs.lemmas.{Bool.{eqb-true, not-false, not-true, true≢false}, Grind.flat_map-append, List.append-nil}
+use Rattle.std.specs.{Prelude.{◌==◌, not, ◌||◌}, List.flat_map}
 use Rattle.item_terms.specs.Bytes.{space, line_feed}
-use Rattle.consensus_terms.specs.Lines.{behind_space, line, list_line}
+use Rattle.consensus_terms.specs.Lines.{behind_space, line, list_line, list_line_by}
 
 six : (k a b c d e f n : List ℕ)
     → k ++ a ++ b ++ c ++ d ++ e ++ f ++ n ≡ k ++ (a ++ (b ++ (c ++ (d ++ (e ++ (f ++ [])))))) ++ n
@@ -36,5 +36,17 @@ module _ {X : Type 0} (text_of : List X → List ℕ) (keyword : List ℕ) where
   unfolding line
   line_of_list [] some = absurd (true≢false some)
   line_of_list (first ∷ rest) some = simp (append_assoc, append-nil)
+
+  -- where all lists have a line, or this one is not empty, it has one
+  pub line_by : (always : Bool) (list : List X) → (always || not (length list == 0)) ≡ true
+      → keyword ++ space ∷ [] ++ text_of list ++ line_feed ∷ [] ≡ list_line_by always text_of keyword list
+  unfolding line
+  line_by true list stands = simp (append_assoc, append-nil)
+  line_by false list stands = line_of_list list (not-true (length list == 0) stands)
+
+  pub no_line_by : (always : Bool) (list : List X) → (always || not (length list == 0)) ≡ false
+      → [] ≡ list_line_by always text_of keyword list
+  no_line_by true list stands = absurd (true≢false stands)
+  no_line_by false list stands = no_line list (not-false (length list == 0) stands)
 
 pub ruleset texts = (append_assoc, append-nil)

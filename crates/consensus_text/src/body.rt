@@ -8,7 +8,7 @@ ghost use Rattle.consensus_terms.specs.Texts as texts;
 use crate::preamble::put_preamble;
 use crate::router::{moment_of_all, put_routers};
 use crate::source::put_sources;
-use crate::weights::put_weights_line;
+use crate::weights::put_weights_if;
 use crate::words::{put_bare_line, put_rest_line};
 use consensus_terms::{Consensus, ConsensusFacts, Flavour, SignedConsensus, Weights};
 use dir_bytes::Text;
@@ -28,11 +28,11 @@ fn put_body(page: &mut Page, flavour: Flavour, moment: Option<u64>, facts: &Cons
 
 /// Puts the footer.
 #[tactic(auto, using(text_page::proofs::Pages::pages))]
-fn put_footer(page: &mut Page, weights: &Weights)
-    ensures { page.new ≡ with_text page.old (texts.footer weights.now) }
+fn put_footer(page: &mut Page, weights: Option<Weights>)
+    ensures { page.new ≡ with_text page.old (texts.footer weights) }
 {
     put_bare_line(page, b"directory-footer");
-    put_weights_line(page, b"bandwidth-weights", weights);
+    put_weights_if(page, weights);
 }
 
 /// Puts the text.
@@ -43,7 +43,7 @@ pub fn put_unsigned(page: &mut Page, flavour: Flavour, consensus: &Consensus)
 {
     let moment = moment_of_all(flavour, consensus.facts.method);
     put_body(page, flavour, moment, &consensus.facts);
-    put_footer(page, &consensus.weights);
+    put_footer(page, consensus.weights);
 }
 
 /// Puts the footer of a consensus that was read.

@@ -9,7 +9,7 @@ use crate::words::{
     put_flags_line, put_moment_line, put_number_line, put_number_word, put_padded_word,
     put_two_numbers_line, put_word, put_word_line,
 };
-use consensus_terms::{ConsensusFacts, ConsensusLists, Flavour};
+use consensus_terms::{ConsensusFacts, ConsensusLists, Flavour, is_34_or_later};
 use text_page::Page;
 use value_groups::SharedRandom;
 
@@ -64,37 +64,41 @@ fn put_times(page: &mut Page, facts: &ConsensusFacts)
     );
 }
 
-/// Puts the versions.
+/// Puts the versions, all lines or those of lists that are not empty.
 #[tactic(auto, using(text_page::proofs::Pages::pages))]
-fn put_versions(page: &mut Page, lists: &ConsensusLists)
-    ensures { page.new ≡ with_text page.old (texts.version_lines lists.now) }
+fn put_versions(page: &mut Page, always: bool, lists: &ConsensusLists)
+    ensures { page.new ≡ with_text page.old (texts.version_lines always lists.now) }
 {
-    put_versions_line(page, b"client-versions", &lists.client_versions);
-    put_versions_line(page, b"server-versions", &lists.server_versions);
+    put_versions_line(page, always, b"client-versions", &lists.client_versions);
+    put_versions_line(page, always, b"server-versions", &lists.server_versions);
 }
 
-/// Puts the four lists of protocols.
+/// Puts the four lists of protocols, all lines or those of lists that are not empty.
 #[tactic(auto, using(text_page::proofs::Pages::pages))]
-fn put_protocols(page: &mut Page, lists: &ConsensusLists)
-    ensures { page.new ≡ with_text page.old (texts.protocol_lines lists.now) }
+fn put_protocols(page: &mut Page, always: bool, lists: &ConsensusLists)
+    ensures { page.new ≡ with_text page.old (texts.protocol_lines always lists.now) }
 {
     put_protocols_line(
         page,
+        always,
         b"recommended-client-protocols",
         &lists.recommended_client_protocols,
     );
     put_protocols_line(
         page,
+        always,
         b"recommended-relay-protocols",
         &lists.recommended_relay_protocols,
     );
     put_protocols_line(
         page,
+        always,
         b"required-client-protocols",
         &lists.required_client_protocols,
     );
     put_protocols_line(
         page,
+        always,
         b"required-relay-protocols",
         &lists.required_relay_protocols,
     );
@@ -129,11 +133,12 @@ pub fn put_preamble(page: &mut Page, flavour: Flavour, facts: &ConsensusFacts)
     requires { HasMoments facts.now }
     ensures { page.new ≡ with_text page.old (texts.preamble flavour facts.now) }
 {
+    let always = is_34_or_later(facts.method);
     put_kind(page, flavour, facts.method);
     put_times(page, facts);
-    put_versions(page, &facts.lists);
+    put_versions(page, always, &facts.lists);
     put_flags_line(page, b"known-flags", &facts.known_flags);
-    put_protocols(page, &facts.lists);
+    put_protocols(page, always, &facts.lists);
     put_params_line(page, b"params", &facts.lists.params);
     put_randoms(page, facts);
 }

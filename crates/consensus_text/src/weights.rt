@@ -1,7 +1,7 @@
 // The line of the weights of bandwidth.
 ghost use Rattle.std.specs.{Prelude.◌≡◌, List.flat_map};
 ghost use Rattle.text_page.specs.Pages.{with_text};
-ghost use Rattle.consensus_terms.specs.Lines.{behind_space, line};
+ghost use Rattle.consensus_terms.specs.{Lines.{behind_space, line}, Texts.weights_line};
 ghost use Rattle.consensus_terms.specs.Weights as words;
 
 use crate::words::put_named_word;
@@ -57,7 +57,7 @@ fn put_middle_weights(page: &mut Page, weights: &Weights)
 
 /// Puts the line of the weights.
 #[tactic(auto, using(text_page::proofs::Pages::pages), unfolding(consensus_terms::specs::Lines::line))]
-pub fn put_weights_line(page: &mut Page, keyword: &[u8], weights: &Weights)
+fn put_weights_line(page: &mut Page, keyword: &[u8], weights: &Weights)
     ensures { page.new ≡ with_text page.old (line keyword.now (words.weight_words weights.now)) }
 {
     page.put(keyword);
@@ -66,4 +66,15 @@ pub fn put_weights_line(page: &mut Page, keyword: &[u8], weights: &Weights)
     put_guard_weights(page, weights);
     put_middle_weights(page, weights);
     page.put(b"\n");
+}
+
+/// Puts their line, where they stand.
+#[tactic(auto, using(text_page::proofs::Pages::pages))]
+pub fn put_weights_if(page: &mut Page, weights: Option<Weights>)
+    ensures { page.new ≡ with_text page.old (weights_line weights) }
+{
+    match weights {
+        Some(weights) => put_weights_line(page, b"bandwidth-weights", &weights),
+        None => {}
+    }
 }

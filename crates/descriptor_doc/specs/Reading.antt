@@ -1,5 +1,7 @@
 -- The descriptor that bytes begin with, or their first fault (dir-spec, "Server descriptor format").
-use Rattle.std.specs.Prelude.{◌≡◌, ℕ, ◌+◌, ◌-◌, ◌≤◌, List, drop, length, take, Option, unwrap_or, Result, Ok, Err}
+use Rattle.std.specs.Prelude.{◌≡◌, ℕ, ◌+◌, ◌-◌, ◌≤◌, ◌==◌, List, [], ◌∷◌, ◌++◌, drop, length, take, Option, unwrap_or}
+use Rattle.std.specs.Prelude.{option_map, Result, Ok, Err, if◌then◌else◌}
+use Rattle.dir_values.specs.{Digests.fingerprint_text, declared.digest.Fingerprint.Fingerprint}
 use Rattle.count_terms.specs.declared.newest.Newest.{Newest, TheVariants.{Method33, Method34, Method35}}
 use Rattle.item_terms.specs.Items.{items_of}
 use Rattle.frame_terms.specs.{declared.fault.ReadRefusal.ReadRefusal, Documents.{document_of, finish}, Refusals.Fails}
@@ -50,11 +52,20 @@ ReadsDescriptor bytes (Err refusal) = Fails refusal (descriptor_of bytes)
 abbrev pub family_certs_in : List ℕ → Option (List EdCert)
 family_certs_in text = family_certs_of (items_of max_descriptor (take max_descriptor text)).items
 
--- the descriptor as an authority reads it whose newest method is this: from method 35 on with its family certificates
+-- the names of a family with the relay's own, where there is one
+abbrev pub with_itself : Fingerprint → List (List ℕ) → List (List ℕ)
+with_itself identity names = if length names == 0 then names else names ++ fingerprint_text identity ∷ []
+
+-- the descriptor with the relay in its family
+abbrev pub in_its_family : Descriptor → Descriptor
+in_its_family d = record d { family = option_map (with_itself d.identity) d.family }
+
+-- the descriptor as an authority reads it whose newest method is this: from method 34 on with the relay in its family, and from
+-- 35 on with its family certificates
 abbrev pub as_read : Newest → Descriptor → Descriptor
 as_read Method33 d = d
-as_read Method34 d = d
-as_read Method35 d = record d { family_certs = family_certs_in d.text }
+as_read Method34 d = in_its_family d
+as_read Method35 d = record (in_its_family d) { family_certs = family_certs_in d.text }
 
 -- the same of what was read
 abbrev pub read_under : Newest → Result (Descriptor × ℕ) ReadRefusal → Result (Descriptor × ℕ) ReadRefusal

@@ -1,5 +1,5 @@
 // The family certificates of a descriptor.
-ghost use Rattle.std.specs.Prelude.{◌≡◌, IfOk};
+ghost use Rattle.std.specs.Prelude.{◌≡◌, IfOk, option_map};
 ghost use Rattle.dirdoc_grammar.specs.Seen.{seen_item, seen_object_if};
 ghost use Rattle.descriptor_doc.specs.FamilyCerts as families;
 ghost use Rattle.descriptor_doc.specs.Reading as reading;
@@ -7,7 +7,8 @@ ghost use Rattle.descriptor_doc.specs.Reading as reading;
 use crate::descriptor::Descriptor;
 use count_terms::Newest;
 use descriptor_frame::EdCert;
-use dir_bytes::{Memory, Seq};
+use dir_bytes::{Memory, Seq, Text};
+use dir_values::Fingerprint;
 use dirdoc_grammar::{Item, Items};
 use frame_values::{between, has_words};
 use std::alloc::Global;
@@ -98,7 +99,43 @@ fn family_certs_in(alloc: Global, text: &[u8]) -> Result<Option<Seq<EdCert>>, Me
     Ok(Some(Seq::new(certs)))
 }
 
-/// The descriptor as an authority reads it whose newest method is this: from method 35 on with its family certificates.
+/// The names of a family with the relay's own, where there is one.
+///
+/// # Errors
+/// `Memory` is want of memory.
+fn with_itself(
+    alloc: Global,
+    identity: &Fingerprint,
+    family: Option<Seq<Text>>,
+) -> Result<Option<Seq<Text>>, Memory>
+    ensures { IfOk result (λ read. read ≡ option_map (reading.with_itself identity.now) family) }
+{
+    let Some(names) = family else {
+        return Ok(None);
+    };
+    let mut names = names;
+    if !names.is_empty() {
+        let mut own = Vec::new(alloc);
+        identity.push(&mut own)?;
+        names.push(Text::new(own))?;
+    }
+    Ok(Some(names))
+}
+
+/// The descriptor with the relay in its family.
+///
+/// # Errors
+/// `Memory` is want of memory.
+fn in_its_family(alloc: Global, descriptor: Descriptor) -> Result<Descriptor, Memory>
+    ensures { IfOk result (λ read. read ≡ reading.in_its_family descriptor) }
+{
+    let mut read = descriptor;
+    read.family = with_itself(alloc, &read.identity, read.family.take())?;
+    Ok(read)
+}
+
+/// The descriptor as an authority reads it whose newest method is this: from method 34 on with the relay in its family, and from 35
+/// on with its family certificates.
 ///
 /// # Errors
 /// `Memory` is want of memory.
@@ -111,9 +148,9 @@ pub(crate) fn as_read(
 {
     match newest {
         Newest::Method33 => Ok(descriptor),
-        Newest::Method34 => Ok(descriptor),
+        Newest::Method34 => in_its_family(alloc, descriptor),
         Newest::Method35 => {
-            let mut read = descriptor;
+            let mut read = in_its_family(alloc, descriptor)?;
             read.family_certs = family_certs_in(alloc, read.text.as_slice())?;
             Ok(read)
         }

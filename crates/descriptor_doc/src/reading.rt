@@ -95,8 +95,8 @@ pub fn read(alloc: Global, bytes: &Bytes) -> Result<(Descriptor, usize), ReadRef
     }
 }
 
-/// The descriptor that the bytes begin with, as `read` reads it, by an authority whose newest method is this: from method 35 on
-/// with the family certificates of the relay.
+/// The descriptor that the bytes begin with, as `read` reads it, by an authority whose newest method is this: from method 34 on
+/// with the relay in its family, and from 35 on with its family certificates.
 ///
 /// # Errors
 /// As those of `read`.

@@ -1,5 +1,5 @@
 -- A server descriptor, row by row of its table: the items of its exit policy stand in their order between the others.
-use Rattle.std.{proofs.Common.{ℕ, Bool, List, [], ◌∷◌, Option, Some, None}, specs.Prelude.{codes, decimal}}
+use Rattle.std.{proofs.Common.{ℕ, Bool, false, List, [], ◌∷◌, Option, Some, None}, specs.Prelude.{codes, decimal}}
 use Rattle.std.specs.Prelude.{if◌then◌else◌}
 use Rattle.dir_bytes.specs.FieldTexts.{base64_text}
 use Rattle.dir_values.specs.{Ports.{Ports, summary_text}, declared.digest.Fingerprint.Fingerprint as Identity}
@@ -59,6 +59,7 @@ abbrev pub groups_entry : Identity → Written
 groups_entry identity = record {
   keyword = the.Fingerprint;
   rest = groups_text identity;
+  spaced = false;
   object = None;
   value = λ p. value.Fingerprint identity;
 }

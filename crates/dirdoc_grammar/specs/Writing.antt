@@ -11,10 +11,12 @@ pub record NewObject : Type 0 where
   pub words : List ℕ
   pub bytes : List ℕ
 
--- an item that is written: its keyword, the rest of its line, and its object if it has one
+-- an item that is written: its keyword, the rest of its line, whether a space stands before the rest also where it is
+-- empty, and its object if it has one
 pub record NewItem : Type 0 where
   pub keyword : List ℕ
   pub arguments : List ℕ
+  pub spaced : Bool
   pub object : Option NewObject
 
 -- ---- its text
@@ -24,9 +26,14 @@ abbrev pub tail : List ℕ → List ℕ
 tail [] = []
 tail (b ∷ bytes) = 32 ∷ b ∷ bytes
 
+-- what stands behind a keyword: a space and the arguments, or nothing where there are none and no space is asked for
+abbrev pub behind : Bool → List ℕ → List ℕ
+behind false args = tail args
+behind true args = 32 ∷ args
+
 -- the keyword line of an item, without its NL
 abbrev pub keyword_text : NewItem → List ℕ
-keyword_text item = item.keyword ++ tail item.arguments
+keyword_text item = item.keyword ++ behind item.spaced item.arguments
 
 -- the text of an object, if there is one
 abbrev pub object_text_if : Option NewObject → List ℕ
@@ -100,7 +107,7 @@ written_object_if place (Some object) = Some (written_object place object)
 abbrev pub written : ℕ → NewItem → Item
 written place item = record {
   keyword = item.keyword;
-  separator = slice_get (tail item.arguments) 0;
+  separator = slice_get (behind item.spaced item.arguments) 0;
   arguments = item.arguments;
   start = argument_start place (keyword_text item);
   line_end = place + (length (keyword_text item) + 1);

@@ -9,13 +9,13 @@ use std::test::Fail;
 
 // The microdescriptor of the one without Ed25519 items.
 const MADE: &[u8] = b"onion-key\n\
-family alpha beta\n\
+family $86F7E437FAA5A7FCE15D1DDCB9EAEAEA377667B8 alpha beta\n\
 p accept 80\n\
 id rsa1024 hvfkN/qlp/zhXR3cuerq6jd2Z7g\n\
 ";
 
 // The SHA-256 of that text, by another program.
-const DIGEST: &[u8] = b"456338b0eb7ab7692d54592462937665fa87c20e000fddb1184dab121cee25dd";
+const DIGEST: &[u8] = b"1d98c1d7b2a8de0032ece146e1e681a1381a520e4fe9c85b8b6756a92d0d0307";
 
 #[test]
 fn a_digest_is_over_the_whole_text() -> Result<(), Fail> {
@@ -54,6 +54,7 @@ vP+fl+WyyVUPS1aGJZeOu5OmVN0RKkz4em7UEiwI3aY=\n\
 
 // Its microdescriptor.
 const NAMED: &[u8] = b"onion-key\n\
+family $438BF08F85C084DE978824AE225C6DD09DB3BF03\n\
 p6 reject 25,80-90\n\
 id ed25519 kZ2goXUuismypQfg1OXWAOgCGZmuORh6IhpfyN3VS7A\n\
 ";

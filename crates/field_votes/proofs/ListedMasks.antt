@@ -112,26 +112,26 @@ module _ (test : ℕ → Bool) where
       by false is [] its = absurd (eqb-false (mask_that test) 0 is (no_bits its))
       by false is (number ∷ rest) its = sym (lt-ltb 0 (suc (length rest)) (omega arith))
 
--- protocols with these bits are those of which most lists have a number
-pub listed_among : (lists : List (List (Named (List ℕ)))) (names : List (List ℕ))
-    → all_listed (masks_among lists names)
-    ≡ map (λ (name : List ℕ). named_value name (listed_numbers lists name)) (filter (is_listed_protocol lists) names)
-listed_among lists [] = refl
-listed_among lists (name ∷ rest) =
-    by (not (listed_mask lists name == 0)) (is_listed_protocol lists name) (some_bit (is_listed_number lists name))
-    (numbers_that_pass (is_listed_number lists name)) (listed_among lists rest)
+-- protocols with these bits are those of which enough lists have a number
+pub listed_among : (least : ℕ) (lists : List (List (Named (List ℕ)))) (names : List (List ℕ))
+    → all_listed (masks_among least lists names)
+    ≡ map (λ (name : List ℕ). named_value name (listed_numbers least lists name)) (filter (is_listed_protocol least lists) names)
+listed_among least lists [] = refl
+listed_among least lists (name ∷ rest) =
+    by (not (listed_mask least lists name == 0)) (is_listed_protocol least lists name) (some_bit (is_listed_number least lists name))
+    (numbers_that_pass (is_listed_number least lists name)) (listed_among least lists rest)
   where
     make : List ℕ → Named (List ℕ)
-    make n = named_value n (listed_numbers lists n)
+    make n = named_value n (listed_numbers least lists n)
 
-    by : (a b : Bool) → a ≡ b → numbers_of (listed_mask lists name) ≡ listed_numbers lists name
-        → all_listed (masks_among lists rest) ≡ map (λ (n : List ℕ). named_value n (listed_numbers lists n)) (filter (is_listed_protocol lists) rest)
-        → all_listed (map (λ (n : List ℕ). named_value n (listed_mask lists n))
-        (cond a (name ∷ filter (λ n. not (listed_mask lists n == 0)) rest) (filter (λ n. not (listed_mask lists n == 0)) rest)))
-        ≡ map (λ (n : List ℕ). named_value n (listed_numbers lists n)) (cond b (name ∷ filter (is_listed_protocol lists) rest) (filter (is_listed_protocol lists) rest))
+    by : (a b : Bool) → a ≡ b → numbers_of (listed_mask least lists name) ≡ listed_numbers least lists name
+        → all_listed (masks_among least lists rest) ≡ map (λ (n : List ℕ). named_value n (listed_numbers least lists n)) (filter (is_listed_protocol least lists) rest)
+        → all_listed (map (λ (n : List ℕ). named_value n (listed_mask least lists n))
+        (cond a (name ∷ filter (λ n. not (listed_mask least lists n == 0)) rest) (filter (λ n. not (listed_mask least lists n == 0)) rest)))
+        ≡ map (λ (n : List ℕ). named_value n (listed_numbers least lists n)) (cond b (name ∷ filter (is_listed_protocol least lists) rest) (filter (is_listed_protocol least lists) rest))
     by true true is its later =
-        ap (λ (l : List ℕ). named_value name l ∷ all_listed (masks_among lists rest)) its
-        ∙ ap (λ (l : List (Named (List ℕ))). named_value name (listed_numbers lists name) ∷ l) later
+        ap (λ (l : List ℕ). named_value name l ∷ all_listed (masks_among least lists rest)) its
+        ∙ ap (λ (l : List (Named (List ℕ))). named_value name (listed_numbers least lists name) ∷ l) later
     by true false is its later = absurd cc
     by false true is its later = absurd cc
     by false false is its later = later

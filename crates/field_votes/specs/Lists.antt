@@ -37,19 +37,20 @@ voted_params roster lists = map (median_param lists) (filter (is_listed_param ro
 
 -- ---- protocols
 
--- whether more than half of the lists have a number of a protocol
-abbrev pub is_listed_number : List (List (Named (List ℕ))) → List ℕ → ℕ → Bool
-is_listed_number lists name number = over (count_by (λ list. has_version list name number) lists) (length lists)
+-- whether at least so many lists have a number of a protocol
+abbrev pub is_listed_number : ℕ → List (List (Named (List ℕ))) → List ℕ → ℕ → Bool
+is_listed_number least lists name number = nat_le least (count_by (λ list. has_version list name number) lists)
 
--- the numbers of a protocol that more than half of the lists have
-abbrev pub listed_numbers : List (List (Named (List ℕ))) → List ℕ → List ℕ
-listed_numbers lists name = numbers_that (is_listed_number lists name)
+-- the numbers of a protocol that so many have
+abbrev pub listed_numbers : ℕ → List (List (Named (List ℕ))) → List ℕ → List ℕ
+listed_numbers least lists name = numbers_that (is_listed_number least lists name)
 
 -- whether there is one
-abbrev pub is_listed_protocol : List (List (Named (List ℕ))) → List ℕ → Bool
-is_listed_protocol lists name = nat_lt 0 (length (listed_numbers lists name))
+abbrev pub is_listed_protocol : ℕ → List (List (Named (List ℕ))) → List ℕ → Bool
+is_listed_protocol least lists name = nat_lt 0 (length (listed_numbers least lists name))
 
 -- the protocols that have one, by name, with these numbers
-abbrev pub voted_protocols : List (List (Named (List ℕ))) → List (Named (List ℕ))
-voted_protocols lists =
-    map (λ name. named_value name (listed_numbers lists name)) (filter (is_listed_protocol lists) (all_names lists))
+abbrev pub voted_protocols : ℕ → List (List (Named (List ℕ))) → List (Named (List ℕ))
+voted_protocols least lists =
+    map (λ name. named_value name (listed_numbers least lists name))
+    (filter (is_listed_protocol least lists) (all_names lists))

@@ -37,11 +37,12 @@ mask_below test (suc number) =
 abbrev pub mask_that : (ℕ → Bool) → ℕ
 mask_that test = mask_below test 64
 
--- the bits of the numbers of a protocol that most lists have
-abbrev pub listed_mask : List (List (Named (List ℕ))) → List ℕ → ℕ
-listed_mask lists name = mask_that (is_listed_number lists name)
+-- the bits of the numbers of a protocol that at least so many lists have
+abbrev pub listed_mask : ℕ → List (List (Named (List ℕ))) → List ℕ → ℕ
+listed_mask least lists name = mask_that (is_listed_number least lists name)
 
--- those of some protocols of which most lists have a number, with these as bits
-abbrev pub masks_among : List (List (Named (List ℕ))) → List (List ℕ) → List (Named ℕ)
-masks_among lists names =
-    map (λ name. named_value name (listed_mask lists name)) (filter (λ name. not (listed_mask lists name == 0)) names)
+-- those of some protocols of which so many have a number, with these as bits
+abbrev pub masks_among : ℕ → List (List (Named (List ℕ))) → List (List ℕ) → List (Named ℕ)
+masks_among least lists names =
+    map (λ name. named_value name (listed_mask least lists name))
+    (filter (λ name. not (listed_mask least lists name == 0)) names)

@@ -1,5 +1,5 @@
 -- Items with the values that they are read with.
-use Rattle.std.proofs.Common.{◌≡◌, ℕ, ◌+◌, false, List, [], ◌∷◌, length, Option, Ok}
+use Rattle.std.proofs.Common.{◌≡◌, ℕ, ◌+◌, Bool, false, List, [], ◌∷◌, length, Option, Ok}
 use Rattle.dirdoc_grammar.specs.Writing.{NewItem, NewObject, item_text, written}
 use Rattle.frame_terms.specs.{Keywords.text_of, Sections.taken_of, Tables.Tables, declared.document.Taken.Taken}
 use Rattle.frame_terms.specs.declared.{keyword.Keyword.Keyword, row.Row.Row}
@@ -8,13 +8,15 @@ use Rattle.frame_terms.specs.declared.{keyword.Keyword.Keyword, row.Row.Row}
 pub record Entry (V : Type 0) : Type 0 where
   pub keyword : Keyword
   pub rest : List ℕ
+  pub spaced : Bool
   pub object : Option NewObject
   pub value : ℕ → V
 
 module _ {V : Type 0} where
   -- the item
   abbrev pub item_of : Entry V → NewItem
-  item_of entry = record { keyword = text_of entry.keyword; arguments = entry.rest; object = entry.object }
+  item_of entry =
+      record { keyword = text_of entry.keyword; arguments = entry.rest; spaced = entry.spaced; object = entry.object }
 
   -- the place after an item that is written at a place
   abbrev pub after_one : ℕ → Entry V → ℕ

@@ -17,12 +17,18 @@ module _ {W : Type 0} where
 
   -- an item that says no more than that it stands
   abbrev pub silent_entry : Keyword → List ℕ → Entry (Value W)
-  silent_entry keyword rest = record { keyword = keyword; rest = rest; object = None; value = λ p. value.Nothing }
+  silent_entry keyword rest =
+      record { keyword = keyword; rest = rest; spaced = false; object = None; value = λ p. value.Nothing }
 
   -- an item that says a text
   abbrev pub text_entry : Keyword → List ℕ → Entry (Value W)
-  text_entry keyword rest =
-      record { keyword = keyword; rest = rest; object = None; value = λ p. value.Text (rest_at p keyword rest) }
+  text_entry keyword rest = record {
+    keyword = keyword;
+    rest = rest;
+    spaced = false;
+    object = None;
+    value = λ p. value.Text (rest_at p keyword rest);
+  }
 
   -- the same where there is a text
   abbrev pub text_entry_if : Keyword → Option (List ℕ) → List (Entry (Value W))
@@ -35,6 +41,7 @@ module _ {W : Type 0} where
       record {
         keyword = keyword;
         rest = moment_text (moment_of moment);
+        spaced = false;
         object = None;
         value = λ p. value.Number
             (moment_of moment);
@@ -45,6 +52,7 @@ module _ {W : Type 0} where
   object_entry keyword words bytes = record {
     keyword = keyword;
     rest = [];
+    spaced = false;
     object = Some (record { words = words; bytes = bytes });
     value = λ p. value.Object (lines_at p keyword [] words bytes);
   }
@@ -52,12 +60,18 @@ module _ {W : Type 0} where
   -- an identity
   abbrev pub identity_entry : Keyword → Fingerprint → Entry (Value W)
   identity_entry keyword identity =
-      record { keyword = keyword; rest = hex_text identity.0; object = None; value = λ p. value.Fingerprint identity }
+      record {
+        keyword = keyword;
+        rest = hex_text identity.0;
+        spaced = false;
+        object = None;
+        value = λ p. value.Fingerprint identity;
+      }
 
   -- what only items of a kind of document say
   abbrev pub own_entry : Keyword → List ℕ → (ℕ → W) → Entry (Value W)
   own_entry keyword rest own =
-      record { keyword = keyword; rest = rest; object = None; value = λ p. value.Own (own p) }
+      record { keyword = keyword; rest = rest; spaced = false; object = None; value = λ p. value.Own (own p) }
 
 -- the item of a text or none, as it is written
 pub items_if : (W : Type 0) (keyword : Keyword) (text : Option (List ℕ))

@@ -1,5 +1,5 @@
 -- The items that say something: a keyword, and what its line and its object say.
-use Rattle.std.specs.Prelude.{ℕ, List, [], ◌∷◌, Option, Some, None}
+use Rattle.std.specs.Prelude.{ℕ, true, false, List, [], ◌∷◌, Option, Some, None}
 use Rattle.dir_bytes.specs.FieldTexts.{moment_text}
 use Rattle.dirdoc_grammar.specs.Writing.{NewItem}
 use Rattle.frame_terms.specs.{Keywords.text_of, declared.keyword.Keyword.Keyword}
@@ -7,12 +7,21 @@ use Rattle.frame_values.specs.Parts.{moment_of}
 
 -- an item whose line has this rest, without an object
 abbrev pub bare : Keyword → List ℕ → NewItem
-bare keyword rest = record { keyword = text_of keyword; arguments = rest; object = None }
+bare keyword rest = record { keyword = text_of keyword; arguments = rest; spaced = false; object = None }
+
+-- an item of a keyword and a space alone
+abbrev pub spaced_item : Keyword → NewItem
+spaced_item keyword = record { keyword = text_of keyword; arguments = []; spaced = true; object = None }
 
 -- an item whose line has this rest, with an object of these words and bytes
 abbrev pub with_object : Keyword → List ℕ → List ℕ → List ℕ → NewItem
 with_object keyword rest words bytes =
-    record { keyword = text_of keyword; arguments = rest; object = Some (record { words = words; bytes = bytes }) }
+    record {
+      keyword = text_of keyword;
+      arguments = rest;
+      spaced = false;
+      object = Some (record { words = words; bytes = bytes });
+    }
 
 -- an item where there is a rest of its line
 abbrev pub item_if : Keyword → Option (List ℕ) → List NewItem

@@ -81,7 +81,7 @@ has_items_with_one_more before whole items item each is text = record {
 
 without_object : (before whole : List ℕ) → HasOpenItem before whole → HasItems before whole
 without_object before whole has =
-    has_items_with_one_more before whole has.items (record { keyword = has.keyword; arguments = has.arguments; object = None }) has.each
+    has_items_with_one_more before whole has.items (record { keyword = has.keyword; arguments = has.arguments; spaced = false; object = None }) has.each
     (record { keyword = has.is_keyword; arguments = has.is_rest; object = tt }) has.text
 
 outside : (before whole : List ℕ) (stage : Stage) → in_line stage ≡ false → Stands before whole stage → HasItems before whole
@@ -137,7 +137,7 @@ with_object : (before whole words bytes : List ℕ) → are_words true words ≡
 with_object before whole words bytes are_words_ are_bytes has =
     let line = has.keyword ++ tail has.arguments in
     let text = object_text words bytes in
-    has_items_with_one_more before (whole ++ text) has.items (record { keyword = has.keyword; arguments = has.arguments; object = Some (record { words = words; bytes = bytes }) }) has.each
+    has_items_with_one_more before (whole ++ text) has.items (record { keyword = has.keyword; arguments = has.arguments; spaced = false; object = Some (record { words = words; bytes = bytes }) }) has.each
     (record { keyword = has.is_keyword; arguments = has.is_rest; object = record { words = are_words_; bytes = are_bytes } })
     (appended_to_last_of_three before (items_text has.items) (line ++ 10 ∷ []) text whole has.text ∙ ap (λ (l : List ℕ). before ++ (items_text has.items ++ l)) (append_assoc line (10 ∷ []) text))
 

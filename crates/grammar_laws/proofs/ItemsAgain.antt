@@ -6,21 +6,22 @@ use Rattle.item_terms.specs.{Words.{begins_dash, first_is, is_letter_or_digit, i
 use Rattle.item_terms.specs.{Steps.nothing, Items.{Contents, contents, also}}
 use Rattle.dirdoc_grammar.specs.{Bodies.object_text, Writing.{AreWritable, IsKeyword, IsLineRest, IsWritable, NewItem}}
 use Rattle.dirdoc_grammar.specs.Writing.{NewObject, all_written, in_front, is_open, item_text, items_text, lacks_object}
-use Rattle.dirdoc_grammar.specs.Writing.{object_text_if, tail, written}
+use Rattle.dirdoc_grammar.specs.Writing.{object_text_if, behind, written}
 use Rattle.grammar_laws.proofs.{ObjectAgain.object_again, RoundTrip.{MayStand, line_again, whole_item, written_item}}
 use Rattle.grammar_laws.proofs.WrittenBytes.{all_joined, avoids, differs}
 
 -- ---- the keyword line
 
 -- arguments have no byte of which a space is none, behind their space too
-all_in_tail : (p : ℕ → Bool) (args : List ℕ) → p 32 ≡ true → list_all p args ≡ true → list_all p (tail args) ≡ true
-all_in_tail p [] space all = refl
-all_in_tail p (b ∷ args) space all = ap (λ (t : Bool). t && list_all p (b ∷ args)) space ∙ all
+all_behind : (p : ℕ → Bool) (spaced : Bool) (args : List ℕ) → p 32 ≡ true → list_all p args ≡ true → list_all p (behind spaced args) ≡ true
+all_behind p true args space all = ap (λ (t : Bool). t && list_all p args) space ∙ all
+all_behind p false [] space all = refl
+all_behind p false (b ∷ args) space all = ap (λ (t : Bool). t && list_all p (b ∷ args)) space ∙ all
 
-line_stands : (limit place : ℕ) (word args : List ℕ) → IsKeyword word → IsLineRest args → length (word ++ tail args) + 1 ≤ max_line → place + (length (word ++ tail args) + 1) ≤ limit → MayStand limit place (word ++ tail args)
-line_stands limit place word args key rest fits within = record {
-  no_nl = all_joined (λ b. not (b == 10)) word (tail args) (avoids is_word_byte 10 word refl key.each) (all_in_tail (λ b. not (b == 10)) args refl rest.no_nl);
-  no_nul = all_joined (λ b. not (b == 0)) word (tail args) (avoids is_word_byte 0 word refl key.each) (all_in_tail (λ b. not (b == 0)) args refl rest.no_nul);
+line_stands : (limit place : ℕ) (word : List ℕ) (spaced : Bool) (args : List ℕ) → IsKeyword word → IsLineRest args → length (word ++ behind spaced args) + 1 ≤ max_line → place + (length (word ++ behind spaced args) + 1) ≤ limit → MayStand limit place (word ++ behind spaced args)
+line_stands limit place word spaced args key rest fits within = record {
+  no_nl = all_joined (λ b. not (b == 10)) word (behind spaced args) (avoids is_word_byte 10 word refl key.each) (all_behind (λ b. not (b == 10)) spaced args refl rest.no_nl);
+  no_nul = all_joined (λ b. not (b == 0)) word (behind spaced args) (avoids is_word_byte 0 word refl key.each) (all_behind (λ b. not (b == 0)) spaced args refl rest.no_nul);
   fits = omega arith;
 }
 
@@ -30,49 +31,49 @@ line_stands limit place word args key rest fits within = record {
 record IsReadAgain (limit place : ℕ) (item : NewItem) (rest : List ℕ) : Type 0 where
   read : contents limit place nothing (item_text item ++ rest) ≡ also (Some (written place item)) (contents limit (place + length (item_text item)) nothing rest)
 
-abbrev item_of : List ℕ → List ℕ → Option NewObject → NewItem
-item_of word args object = record { keyword = word; arguments = args; object = object }
+abbrev item_of : List ℕ → Bool → List ℕ → Option NewObject → NewItem
+item_of word spaced args object = record { keyword = word; arguments = args; spaced = spaced; object = object }
 
 -- without an object, before what begins with no '-'
-line_alone : (limit place : ℕ) (word args rest : List ℕ) → IsWritable limit place (item_of word args None) → begins_dash rest ≡ false → IsReadAgain limit place (item_of word args None) rest
-line_alone limit place word args rest h dash =
-    let line = word ++ tail args in
+line_alone : (limit place : ℕ) (word : List ℕ) (spaced : Bool) (args rest : List ℕ) → IsWritable limit place (item_of word spaced args None) → begins_dash rest ≡ false → IsReadAgain limit place (item_of word spaced args None) rest
+line_alone limit place word spaced args rest h dash =
+    let line = word ++ behind spaced args in
     let n : length (line ++ 10 ∷ []) ≡ length line + 1 = length-append line (10 ∷ []) in
-    let stands = line_stands limit place word args h.keyword h.arguments h.line_fits (omega (arith, n, h.within)) in
-    let item = written_item place word args in
+    let stands = line_stands limit place word spaced args h.keyword h.arguments h.line_fits (omega (arith, n, h.within)) in
+    let item = written_item place word spaced args in
     let after = place + (length line + 1) in
     let end : after ≡ place + length (line ++ 10 ∷ []) = omega (arith, n) in
     record {
       read = ap (λ (l : List ℕ). contents limit place nothing l) (append_assoc line (10 ∷ []) rest)
-          ∙ line_again limit place word args rest h.keyword h.arguments.trimmed stands
+          ∙ line_again limit place word spaced args rest h.keyword h.arguments.trimmed stands
           ∙ whole_item limit after item rest dash
           ∙ ap (λ (k : ℕ). also (Some (record { keyword = item.keyword; separator = item.separator; arguments = item.arguments; start = item.start; line_end = item.line_end; object = None; place = place; after = k })) (contents limit k nothing rest)) end;
     }
 
 -- with an object, whatever follows
-line_with_object : (limit place : ℕ) (word args : List ℕ) (object : NewObject) (rest : List ℕ) → IsWritable limit place (item_of word args (Some object)) → IsReadAgain limit place (item_of word args (Some object)) rest
-line_with_object limit place word args object rest h =
-    let line = word ++ tail args in
+line_with_object : (limit place : ℕ) (word : List ℕ) (spaced : Bool) (args : List ℕ) (object : NewObject) (rest : List ℕ) → IsWritable limit place (item_of word spaced args (Some object)) → IsReadAgain limit place (item_of word spaced args (Some object)) rest
+line_with_object limit place word spaced args object rest h =
+    let line = word ++ behind spaced args in
     let text = object_text object.words object.bytes in
     let n : length (line ++ 10 ∷ text) ≡ length line + 1 + length text = omega (arith, length-append line (10 ∷ text)) in
-    let stands = line_stands limit place word args h.keyword h.arguments h.line_fits (omega (arith, n, h.within)) in
-    let item = written_item place word args in
+    let stands = line_stands limit place word spaced args h.keyword h.arguments h.line_fits (omega (arith, n, h.within)) in
+    let item = written_item place word spaced args in
     let begin = place + (length line + 1) in
     let end : begin + length text ≡ place + length (line ++ 10 ∷ text) = omega (arith, n) in
-    let whole = written place (item_of word args (Some object)) in
+    let whole = written place (item_of word spaced args (Some object)) in
     record {
       read = ap (λ (l : List ℕ). contents limit place nothing l) (append_assoc line (10 ∷ text) rest)
-          ∙ line_again limit place word args (text ++ rest) h.keyword h.arguments.trimmed stands
+          ∙ line_again limit place word spaced args (text ++ rest) h.keyword h.arguments.trimmed stands
           ∙ object_again limit begin item object.words object.bytes rest h.object.words h.object.bytes h.object.fits (omega (arith, n, h.within))
           ∙ ap (λ (k : ℕ). also (Some (record { keyword = item.keyword; separator = item.separator; arguments = item.arguments; start = item.start; line_end = item.line_end; object = whole.object; place = place; after = k })) (contents limit k nothing rest)) end;
     }
 
-by_object : (limit place : ℕ) (word args : List ℕ) (object : Option NewObject) (rest : List ℕ) → IsWritable limit place (item_of word args object) → lacks_object object && begins_dash rest ≡ false → IsReadAgain limit place (item_of word args object) rest
-by_object limit place word args None rest h dash = line_alone limit place word args rest h dash
-by_object limit place word args (Some object) rest h dash = line_with_object limit place word args object rest h
+by_object : (limit place : ℕ) (word : List ℕ) (spaced : Bool) (args : List ℕ) (object : Option NewObject) (rest : List ℕ) → IsWritable limit place (item_of word spaced args object) → lacks_object object && begins_dash rest ≡ false → IsReadAgain limit place (item_of word spaced args object) rest
+by_object limit place word spaced args None rest h dash = line_alone limit place word spaced args rest h dash
+by_object limit place word spaced args (Some object) rest h dash = line_with_object limit place word spaced args object rest h
 
 one_again : (limit place : ℕ) (item : NewItem) (rest : List ℕ) → IsWritable limit place item → lacks_object item.object && begins_dash rest ≡ false → IsReadAgain limit place item rest
-one_again limit place item rest h dash = by_object limit place item.keyword item.arguments item.object rest h dash
+one_again limit place item rest h dash = by_object limit place item.keyword item.spaced item.arguments item.object rest h dash
 
 -- ---- items one after the other
 
@@ -84,7 +85,7 @@ no_dash_first (b ∷ word) more h = differs is_letter_or_digit 45 b refl h
 no_dash_item : (item : NewItem) (more rest : List ℕ) → IsKeyword item.keyword → begins_dash (item_text item ++ more ++ rest) ≡ false
 no_dash_item item more rest key =
     let word = item.keyword in
-    let args = tail item.arguments in
+    let args = behind item.spaced item.arguments in
     let last = 10 ∷ object_text_if item.object in
     ap begins_dash (append_assoc (word ++ args ++ last) more rest ∙ append_assoc (word ++ args) last (more ++ rest) ∙ append_assoc word args (last ++ (more ++ rest)))
     ∙ no_dash_first word (args ++ (last ++ (more ++ rest))) key.first

@@ -13,20 +13,20 @@ use Rattle.item_terms.specs.{Faults.{line_fault, too_long, nul_fault, or_else, a
 use Rattle.item_terms.specs.Steps.{Item, Open, Step, step, nothing, keyword_line, open_item, item_unless, open_unless}
 use Rattle.item_terms.specs.{Steps.{read_line, line_item, first_object_line}, Items.{Contents, contents, contents_of}}
 use Rattle.item_terms.specs.Items.{also, proceed}
-use Rattle.dirdoc_grammar.specs.{Writing.{tail, IsKeyword}, Reading.{first_line, first_line_len}}
+use Rattle.dirdoc_grammar.specs.{Writing.{behind, IsKeyword}, Reading.{first_line, first_line_len}}
 use Rattle.dirdoc_grammar.proofs.{FirstLine.at_first, LineSteps.first_dash}
 
 -- the item of a line that has this keyword and these arguments, without an object
-abbrev pub written_item : ℕ → List ℕ → List ℕ → Item
-written_item place word args = record {
+abbrev pub written_item : ℕ → List ℕ → Bool → List ℕ → Item
+written_item place word spaced args = record {
   keyword = word;
-  separator = slice_get (tail args) 0;
+  separator = slice_get (behind spaced args) 0;
   arguments = args;
-  start = argument_start place (word ++ tail args);
-  line_end = place + (length (word ++ tail args) + 1);
+  start = argument_start place (word ++ behind spaced args);
+  line_end = place + (length (word ++ behind spaced args) + 1);
   object = None;
   place = place;
-  after = place + (length (word ++ tail args) + 1);
+  after = place + (length (word ++ behind spaced args) + 1);
 }
 
 -- the line may stand at this place of a document: it has no NL and no NUL, and passes no limit
@@ -62,22 +62,29 @@ first_line_again line rest no_nl =
 
 -- ---- the line that is written for a keyword and arguments
 
-keyword_again : (word args : List ℕ) → IsKeyword word → keyword_len (word ++ tail args) ≡ length word
-keyword_again word [] h = ap keyword_len (append-nil word) ∙ prefix_whole is_word_byte word h.each
-keyword_again word (b ∷ args) h = prefix_stops is_word_byte word 32 (b ∷ args) h.each refl
+keyword_again : (word : List ℕ) (spaced : Bool) (args : List ℕ) → IsKeyword word → keyword_len (word ++ behind spaced args) ≡ length word
+keyword_again word true args h = prefix_stops is_word_byte word 32 args h.each refl
+keyword_again word false [] h = ap keyword_len (append-nil word) ∙ prefix_whole is_word_byte word h.each
+keyword_again word false (b ∷ args) h = prefix_stops is_word_byte word 32 (b ∷ args) h.each refl
 
-rest_again : (word args : List ℕ) → IsKeyword word → after_keyword (word ++ tail args) ≡ tail args
-rest_again word args h = ap (λ (k : ℕ). drop k (word ++ tail args)) (keyword_again word args h) ∙ drop_at word (tail args) (length word) refl
+rest_again : (word : List ℕ) (spaced : Bool) (args : List ℕ) → IsKeyword word → after_keyword (word ++ behind spaced args) ≡ behind spaced args
+rest_again word spaced args h =
+    ap (λ (k : ℕ). drop k (word ++ behind spaced args)) (keyword_again word spaced args h) ∙ drop_at word (behind spaced args) (length word) refl
 
-trim_tail : (args : List ℕ) → trim args ≡ args → trim (tail args) ≡ args
-trim_tail [] e = refl
-trim_tail (b ∷ args) e =
-    let n : 1 + prefix_len is_blank (b ∷ args) ≡ suc (prefix_len is_blank (b ∷ args)) = omega arith in
-    ap (λ (k : ℕ). trim_end (drop k (32 ∷ b ∷ args))) n ∙ e
+trim_space : (args : List ℕ) → trim args ≡ args → trim (32 ∷ args) ≡ args
+trim_space args e =
+    let n : 1 + prefix_len is_blank args ≡ suc (prefix_len is_blank args) = omega arith in
+    ap (λ (k : ℕ). trim_end (drop k (32 ∷ args))) n ∙ e
 
-ends_tail : (args : List ℕ) → ends_or_blank (tail args) ≡ true
-ends_tail [] = refl
-ends_tail (b ∷ args) = refl
+trim_behind : (spaced : Bool) (args : List ℕ) → trim args ≡ args → trim (behind spaced args) ≡ args
+trim_behind true args e = trim_space args e
+trim_behind false [] e = refl
+trim_behind false (b ∷ args) e = trim_space (b ∷ args) e
+
+ends_behind : (spaced : Bool) (args : List ℕ) → ends_or_blank (behind spaced args) ≡ true
+ends_behind true args = refl
+ends_behind false [] = refl
+ends_behind false (b ∷ args) = refl
 
 letter_not_blank : (b : ℕ) → is_letter_or_digit b ≡ true → is_blank b ≡ false
 letter_not_blank b e = grind (arith, nat_tests)
@@ -90,9 +97,9 @@ first_letter : (word more : List ℕ) → first_is is_letter_or_digit word ≡ t
 first_letter [] more e = absurd (false≢true e)
 first_letter (b ∷ word) more e = e
 
-keyword_line_again : (word args : List ℕ) → IsKeyword word → is_keyword_line (word ++ tail args) ≡ true
-keyword_line_again word args h =
-    ap (λ (t : Bool). t && ends_or_blank (after_keyword (word ++ tail args))) (first_letter word (tail args) h.first) ∙ ap ends_or_blank (rest_again word args h) ∙ ends_tail args
+keyword_line_again : (word : List ℕ) (spaced : Bool) (args : List ℕ) → IsKeyword word → is_keyword_line (word ++ behind spaced args) ≡ true
+keyword_line_again word spaced args h =
+    ap (λ (t : Bool). t && ends_or_blank (after_keyword (word ++ behind spaced args))) (first_letter word (behind spaced args) h.first) ∙ ap ends_or_blank (rest_again word spaced args h) ∙ ends_behind spaced args
 
 abbrev pub by_tests : ℕ → List ℕ → Bool → Bool → Result (Option Item) DocFault
 by_tests place line blank is_kw = cond blank (Ok None) (cond is_kw (Ok (Some (keyword_item place (record { text = line; ended = true })))) (Err (at place Keyword)))
@@ -110,17 +117,17 @@ item_with place line word after_word args = record {
   after = place + (length line + 1);
 }
 
-pub item_of_line : (place : ℕ) (word args : List ℕ) → IsKeyword word → trim args ≡ args
-    → line_item place (record { text = word ++ tail args; ended = true }) ≡ Ok (Some (written_item place word args))
-item_of_line place word args h trimmed =
-    let line = word ++ tail args in
-    let word_is : keyword line ≡ word = ap (λ (k : ℕ). take k line) (keyword_again word args h) ∙ take_at word (tail args) (length word) refl in
-    let args_is : arguments line ≡ args = ap trim (rest_again word args h) ∙ trim_tail args trimmed in
-    ap (λ (b : Bool). by_tests place line b (is_keyword_line line)) (not_blank word (tail args) h.first)
-    ∙ ap (λ (b : Bool). by_tests place line false b) (keyword_line_again word args h)
+pub item_of_line : (place : ℕ) (word : List ℕ) (spaced : Bool) (args : List ℕ) → IsKeyword word → trim args ≡ args
+    → line_item place (record { text = word ++ behind spaced args; ended = true }) ≡ Ok (Some (written_item place word spaced args))
+item_of_line place word spaced args h trimmed =
+    let line = word ++ behind spaced args in
+    let word_is : keyword line ≡ word = ap (λ (k : ℕ). take k line) (keyword_again word spaced args h) ∙ take_at word (behind spaced args) (length word) refl in
+    let args_is : arguments line ≡ args = ap trim (rest_again word spaced args h) ∙ trim_behind spaced args trimmed in
+    ap (λ (b : Bool). by_tests place line b (is_keyword_line line)) (not_blank word (behind spaced args) h.first)
+    ∙ ap (λ (b : Bool). by_tests place line false b) (keyword_line_again word spaced args h)
     ∙ ap (λ (w : List ℕ). Ok (Some (item_with place line w (separator line) (arguments line)))) word_is
-    ∙ ap (λ (s : Option ℕ). Ok (Some (item_with place line word s (arguments line)))) (ap (λ (r : List ℕ). slice_get r 0) (rest_again word args h))
-    ∙ ap (λ (a : List ℕ). Ok (Some (item_with place line word (slice_get (tail args) 0) a))) args_is
+    ∙ ap (λ (s : Option ℕ). Ok (Some (item_with place line word s (arguments line)))) (ap (λ (r : List ℕ). slice_get r 0) (rest_again word spaced args h))
+    ∙ ap (λ (a : List ℕ). Ok (Some (item_with place line word (slice_get (behind spaced args) 0) a))) args_is
 
 pub sound_line : (limit place : ℕ) (line : List ℕ) → MayStand limit place line → line_fault limit place (record { text = line; ended = true }) ≡ None
 sound_line limit place line h =
@@ -156,11 +163,11 @@ read_over limit place so_far line rest whole next no_nl made =
     ∙ ap (λ (r : List ℕ). also whole (contents limit (place + (length line + 1)) next r)) left
 
 -- a keyword line that was written opens its item
-pub line_again : (limit place : ℕ) (word args rest : List ℕ) → IsKeyword word → trim args ≡ args → MayStand limit place (word ++ tail args)
-    → contents limit place nothing ((word ++ tail args) ++ 10 ∷ rest) ≡ contents limit (place + (length (word ++ tail args) + 1)) (keyword_line (written_item place word args)) rest
-line_again limit place word args rest h trimmed stands =
-    let line = word ++ tail args in
+pub line_again : (limit place : ℕ) (word : List ℕ) (spaced : Bool) (args rest : List ℕ) → IsKeyword word → trim args ≡ args → MayStand limit place (word ++ behind spaced args)
+    → contents limit place nothing ((word ++ behind spaced args) ++ 10 ∷ rest) ≡ contents limit (place + (length (word ++ behind spaced args) + 1)) (keyword_line (written_item place word spaced args)) rest
+line_again limit place word spaced args rest h trimmed stands =
+    let line = word ++ behind spaced args in
     let l : Line = record { text = line; ended = true } in
-    read_over limit place nothing line rest None (keyword_line (written_item place word args)) stands.no_nl
+    read_over limit place nothing line rest None (keyword_line (written_item place word spaced args)) stands.no_nl
     (ap (λ (f : Option DocFault). record { whole = None; next = open_item (item_unless f (line_item place l)) }) (sound_line limit place line stands)
-    ∙ ap (λ (r : Result (Option Item) DocFault). record { whole = None; next = open_item r }) (item_of_line place word args h trimmed))
+    ∙ ap (λ (r : Result (Option Item) DocFault). record { whole = None; next = open_item r }) (item_of_line place word spaced args h trimmed))

@@ -1,14 +1,14 @@
 -- Lists of values among the rows of any kind of document: versions of Tor, versions of protocols, params. Each suits
 -- its row, and is read as the list that it was written for.
-use Rattle.std.proofs.Common.{◌≡◌, ℕ, false, List, [], ◌∷◌, length, Option, Some, None, Result, refl, sym, ap, ◌∙◌}
+use Rattle.std.proofs.Common.{◌≡◌, ℕ, false, List, [], ◌∷◌, length, Option, Some, None, Result, refl, ap, ◌∙◌}
 use Rattle.std.{proofs.lemmas.List.length-map, specs.Prelude.{ℤ, IfSome, map, option_map}}
 use Rattle.dir_values.specs.{Arguments.arguments_at, declared.refusal.ValueRefusal.ValueRefusal}
 use Rattle.dirdoc_grammar.specs.Writing.{written}
 use Rattle.frame_terms.specs.{Rows.{is_one, row}, Tables.Tables, declared.document.Taken.Taken}
 use Rattle.frame_terms.specs.declared.{keyword.Keyword.Keyword, row.{Count.TheVariants.Optional, Limit.Limit, Row.Row}}
 use Rattle.frame_terms.specs.declared.keyword.Keyword.TheVariants as the
-use Rattle.frame_values.specs.{Items.bare, Lines.rest_unless, Parts.part, Values.{item_at, text_if, text_in}}
-use Rattle.frame_values.specs.declared.{found.Span.Span, values.Value.Value}
+use Rattle.frame_values.specs.{Items.bare, Lines.rest_unless, Parts.part, Values.{item_at, text_if}}
+use Rattle.frame_values.specs.declared.values.Value.{Value}
 use Rattle.frame_laws.proofs.{Both.both_hold, Entries.AlwaysSuits, ReadRows.IsRead, RowCounts.{said_none, said_once}}
 use Rattle.frame_laws.proofs.{RowValues.{row_if, text_entry, text_if_said}, SaidRows.{AreSaid, IsSaid, RowSays}}
 use Rattle.frame_laws.proofs.{Words.length-arguments_at, WrittenItems.{rest_at, start_of}}
@@ -19,7 +19,7 @@ use Rattle.value_groups.specs.Listed.{protocols_in, versions_in}
 use Rattle.value_laws.specs.Ranges.{AreParamsInRange, AreProtocolsInRange, AreVersionsInRange}
 use Rattle.value_laws.proofs.{ParamsAgain.{params_again, params_right, words}, ProtocolsAgain.protocols_again}
 use Rattle.value_laws.proofs.{ProtocolsAgain.protocols_right, VersionsAgain.{versions_again, versions_right}}
-use Rattle.group_laws.{specs.Lists.some_list, proofs.Readings.{AreFew, Reads, few_enough, suits_reading, text_at}}
+use Rattle.group_laws.proofs.Readings.{AreFew, Reads, few_enough, suits_reading, text_at}
 
 -- ---- the rows
 
@@ -85,7 +85,7 @@ length_of_params place params are =
 
 module _ {S K W X : Type 0} {tables : Tables S K (Value W) X} {kinds : ListKinds K} {most : Option Limit}
     (has : HasLists tables kinds most) where
-  suits_versions : (keyword : Keyword) (versions : List (List ℕ)) → AreVersionsInRange versions
+  pub suits_versions : (keyword : Keyword) (versions : List (List ℕ)) → AreVersionsInRange versions
       → AlwaysSuits tables (row keyword Optional kinds.versions) (text_entry keyword (versions_text versions))
   suits_versions keyword versions are =
       let text = versions_text versions in
@@ -94,7 +94,7 @@ module _ {S K W X : Type 0} {tables : Tables S K (Value W) X} {kinds : ListKinds
       (λ across p. ap (λ (o : Option ℕ). rest_unless o (written p (bare keyword text)))
       (versions_right (start_of p keyword text) versions are))
 
-  suits_protocols : (keyword : Keyword) (protocols : List (Named (List ℕ))) → AreProtocolsInRange protocols
+  pub suits_protocols : (keyword : Keyword) (protocols : List (Named (List ℕ))) → AreProtocolsInRange protocols
       → AlwaysSuits tables (row keyword Optional kinds.protocols) (text_entry keyword (protocols_text protocols))
   suits_protocols keyword protocols are =
       let text = protocols_text protocols in
@@ -103,7 +103,7 @@ module _ {S K W X : Type 0} {tables : Tables S K (Value W) X} {kinds : ListKinds
       (λ across p. ap (λ (o : Option ℕ). rest_unless o (written p (bare keyword text)))
       (protocols_right (start_of p keyword text) protocols are))
 
-  suits_params : (params : List (Named ℤ)) → AreParamsWithin most params
+  pub suits_params : (params : List (Named ℤ)) → AreParamsWithin most params
       → AlwaysSuits tables (row the.Params Optional kinds.params) (text_entry the.Params (params_text params))
   suits_params params are =
       let text = params_text params in
@@ -186,23 +186,3 @@ module _ {K W : Type 0} {limit : ℕ} {bytes : List ℕ} {taken : List (Taken (V
       (text_if_said (row the.Params Optional kinds.params) (option_map params_text params) read)
       ∙ back_if params_text params_in AreParamsInRange params are
       (λ l is. ap (λ (r : Result (List (Named ℤ)) ValueRefusal). members_of r) (params_again l is))
-
--- ---- lists that stand where they are not empty
-
-module _ {A : Type 0} where
-  pub if_list : (R : List A → Type 0) (list : List A) → R list → IfSome (some_list list) R
-  if_list R [] are = tt
-  if_list R (first ∷ rest) are = are
-
-  same_list : (a b : List A) → Some a ≡ Some b → a ≡ b
-  same_list a b is = cc
-
-  -- what the text lists that stands there, and no text none
-  pub list_back : (bytes : List ℕ) (text_of : List A → List ℕ) (read : List ℕ → List A) (text : Option Span)
-      (list : List A) → text_of [] ≡ [] → read (text_of list) ≡ list
-      → option_map read (option_map (part bytes) text) ≡ some_list list → read (part bytes (text_in text)) ≡ list
-  list_back bytes text_of read None [] none back is = ap read (sym none) ∙ back
-  list_back bytes text_of read None (first ∷ rest) none back is = absurd (cc is)
-  list_back bytes text_of read (Some span) [] none back is = absurd (cc is)
-  list_back bytes text_of read (Some span) (first ∷ rest) none back is =
-      same_list (read (part bytes span)) (first ∷ rest) is

@@ -2,4 +2,3 @@ pub mod Ranges
 pub mod EntryAgain
 pub mod LineAgain
 pub mod Again
-pub mod Lists

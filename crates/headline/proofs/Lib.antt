@@ -1,3 +1,4 @@
-mod Right
 mod Deliveries
 mod Listing
+mod Right
+mod Saying

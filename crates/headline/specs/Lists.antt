@@ -8,8 +8,8 @@ use Rattle.period_terms.specs.{Offers.most_vote_changes, Steps.{step, changes}}
 use Rattle.period_laws.specs.{Checked.{AreChecked, anything}, Periods.{Along, HoldTheSame}, ShortForms.begins_next}
 use Rattle.headline.specs.Times.{Has, IsDelivered}
 
--- Whatever list of deliveries that were checked came, in whatever order and however often, an authority has what `Has` says of the
--- votes that it accepted.
+-- Whatever list of deliveries that were checked came, in whatever order and however often, an authority has what `Has`
+-- says of the votes that it accepted.
 abbrev pub DeliveriesAreRight : Type 0
 DeliveriesAreRight = (rules : Rules) (start : State) (events : List Event) → IsStart start
     → AreChecked anything rules start events
@@ -32,8 +32,8 @@ delivered (Advanced now given ∷ events) = delivered events
 delivered (SignedIn signature ∷ events) = delivered events
 delivered (Read ∷ events) = delivered events
 
--- Two lists of deliveries of one period to two authorities of one roster that know the same newest method, with the same votes,
--- none of them late or past the limit.
+-- Two lists of deliveries of one period to two authorities of one roster that know the same newest method, with the
+-- same votes, none of them late or past the limit.
 pub record AreOfOnePeriod (one other : State) (events others : List Event) : Type 0 where
   pub first : IsStart one
   pub second : IsStart other

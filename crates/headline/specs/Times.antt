@@ -1,4 +1,5 @@
--- What is so at each time of an authority: of the votes that it accepted, of what it computed of them, and of what it published.
+-- What is so at each time of an authority: of the votes that it accepted, of what it computed of them, and of what it
+-- published.
 use Rattle.std.specs.Prelude.{◌≡◌, ◌++◌, ◌∷◌, ◌&&◌, ◌<◌, ℕ, Bool, true, List, length, count_by, Contains, Some}
 use Rattle.std.specs.List.{list_any}
 use Rattle.count_terms.specs.{Counts.over, declared.newest.Newest.Newest}
@@ -23,8 +24,8 @@ has_signed rules digest votes lines member =
     && list_any (λ (vote : ReadVote). same_identity vote.says.identity member
     && rules.may_accept kind.Signing vote.says.certificate.signing_key digest line.signature) votes) lines
 
--- The text is the consensus of acceptable votes alone, by the newest method that is known, with signatures behind it, and more
--- than half of the roster signed its digest.
+-- The text is the consensus of acceptable votes alone, by the newest method that is known, with signatures behind it,
+-- and more than half of the roster signed its digest.
 pub record IsRightlySigned (rules : Rules) (roster : List Fingerprint) (newest : Newest) (flavour : Flavour)
     (text : List ℕ) : Type 0 where
   pub period : ℕ
@@ -49,8 +50,8 @@ pub record Has (rules : Rules) (roster : List Fingerprint) (newest : Newest) (st
   pub published : (flavour : Flavour) (text : List ℕ) → current_of flavour state ≡ Some text
       → IsRightlySigned rules roster newest flavour text
 
--- One list of changes of an authority. At each time it has what is said above; and with the votes of more than half of the
--- roster held where no more are taken, the next moment computes.
+-- One list of changes of an authority. At each time it has what is said above; and with the votes of more than half of
+-- the roster held where no more are taken, the next moment computes.
 pub record IsRight (rules : Rules) (start : State) (story : List Entry) : Type 0 where
   pub always : (before later : List Entry) → story ≡ before ++ later
       → Has rules start.roster start.newest (after start before) (accepted start (events_of before))
@@ -82,8 +83,8 @@ SomeoneSignedBoth = (rules : Rules) (roster : List Fingerprint) (newest other_ne
 
 -- ---- which deliveries are accepted
 
--- A vote that comes this way at this moment is for the period and of a member, and it is not late: votes are taken, and its cutoff
--- is to come.
+-- A vote that comes this way at this moment is for the period and of a member, and it is not late: votes are taken, and
+-- its cutoff is to come.
 pub record IsDelivered (state : State) (vote : ReadVote) (via : Via) (now : ℕ) : Type 0 where
   pub period : vote.says.valid_after ≡ state.valid_after
   pub member : has_member state.roster vote.says.identity ≡ true

@@ -2,8 +2,8 @@
 use Rattle.std.proofs.Common.{◌≡◌, ℕ, ◌≤◌, Bool, true, false, List, [], ◌∷◌, ◌++◌, map, filter, Option, Some, None}
 use Rattle.std.proofs.{Common.{refl, arith}, lemmas.{Bool.{and_from, false≢true}, List.Elements.{All-cons, All-filter}}}
 use Rattle.std.proofs.lemmas.List.Elements.{All-head, All-map, All-nil, All-tail, All-weaker}
-use Rattle.std.{proofs.lemmas.List.Sums.AllPass-from_list_all, specs.Prelude.{All, IfSome, codes, decimal, min}}
-use Rattle.std.specs.{Prelude.{option_and_then, option_map, take, unwrap_or, ◌==◌, ◌/◌, if◌then◌else◌}, List.find}
+use Rattle.std.{proofs.lemmas.List.Sums.AllPass-from_list_all, specs.Prelude.{All, IfSome, codes, decimal, is_some}}
+use Rattle.std.specs.{Prelude.{min, option_and_then, option_map, take, unwrap_or, ◌==◌, ◌/◌, if◌then◌else◌}, List.find}
 use Rattle.std.specs.Str.{bytes_eq}
 use Rattle.count_terms.specs.declared.newest.Newest.{Newest}
 use Rattle.item_terms.specs.{Bytes.{comma, hyphen, space}, Words.words_of}
@@ -26,9 +26,10 @@ use Rattle.maker_laws.{specs.Ranges.IsMeasuredInRange, proofs.{MicroLines.{IsFin
 use Rattle.vote_pool.specs.Summaries.{family_digest_of, micro_digest_of}
 use Rattle.vote_laws.{specs.Again.{AreEntryFlags, IsEntryInRange, IsMicroInRange}, proofs.FlagSets.All-as_set}
 use Rattle.vote_terms.specs.declared.entry.MicroFacts.{MicroFacts}
-use Rattle.vote_maker.specs.Entries.{micros_of, opinion_of, version_of_platform, version_of_words}
-use Rattle.vote_maker.specs.{Listings.{JudgedRelay, entry_of_judged, judged_relays}, Relays.{is_of, known_of}}
-use Rattle.vote_maker.specs.Relays.{known_relays, most_kilobytes, unmeasured_relay}
+use Rattle.vote_maker.specs.Entries.{if_plain, is_ipv6, is_plain, knows_34, made_addresses, made_micros, opinion_of}
+use Rattle.vote_maker.specs.{Entries.{version_of_platform, version_of_words}, Listings.{JudgedRelay, entry_of_judged}}
+use Rattle.vote_maker.specs.{Listings.judged_relays, Relays.{is_of, known_of, known_relays, most_kilobytes}}
+use Rattle.vote_maker.specs.Relays.{unmeasured_relay}
 use Rattle.range_laws.proofs.{EntryTexts.HasRests, ReadNames.IsName}
 
 -- ---- what is known of relays
@@ -108,10 +109,35 @@ flags_ranged flags =
           (All-filter (λ (row : Bool × List ℕ). row.0) IsNamed (name_table flags) all));
     }
 
-addresses_ranged : (addresses : List (List ℕ)) → All IsShortAddress addresses → All IsAddressInRange (take 1 addresses)
-addresses_ranged [] all = All-nil IsAddressInRange
-addresses_ranged (text ∷ rest) all =
-    All-cons IsAddressInRange text [] (All-head IsShortAddress text rest all).address (All-nil IsAddressInRange)
+first_kept : (addresses : List (List ℕ)) → All IsShortAddress addresses → All IsShortAddress (take 1 addresses)
+first_kept [] all = all
+first_kept (text ∷ rest) all =
+    All-cons IsShortAddress text [] (All-head IsShortAddress text rest all) (All-nil IsShortAddress)
+
+-- an address that was found, where it is written plainly
+found_kept : (addresses : List (List ℕ)) → All IsShortAddress addresses
+    → All IsShortAddress (if_plain (find is_ipv6 addresses))
+found_kept [] all = all
+found_kept (text ∷ rest) all =
+    by (is_ipv6 text) (All-head IsShortAddress text rest all) (found_kept rest (All-tail IsShortAddress text rest all))
+  where
+    plain : (b : Bool) → IsShortAddress text → All IsShortAddress (if b then text ∷ [] else [])
+    plain true is = All-cons IsShortAddress text [] is (All-nil IsShortAddress)
+    plain false is = All-nil IsShortAddress
+
+    by : (b : Bool) → IsShortAddress text → All IsShortAddress (if_plain (find is_ipv6 rest))
+        → All IsShortAddress (if_plain (if b then Some text else find is_ipv6 rest))
+    by true is more = plain (is_plain true false text) is
+    by false is more = more
+
+-- a made entry has addresses of the descriptor
+pub made_kept : (newest : Newest) (addresses : List (List ℕ)) → All IsShortAddress addresses
+    → All IsShortAddress (made_addresses newest addresses)
+made_kept newest addresses all = by (knows_34 newest)
+  where
+    by : (b : Bool) → All IsShortAddress (if b then if_plain (find is_ipv6 addresses) else take 1 addresses)
+    by true = found_kept addresses all
+    by false = first_kept addresses all
 
 opinion_ranged : (certificate : Option EdCert) → IfSome certificate (λ c. AreThirtyTwo c.signer)
     → IsOpinionInRange (opinion_of certificate)
@@ -126,11 +152,13 @@ entry_ranged newest one is =
     record {
       relay = d.router;
       published = d.published;
-      addresses = addresses_ranged one.descriptor.or_addresses d.or_addresses;
+      addresses = All-weaker IsShortAddress IsAddressInRange (λ (text : List ℕ) is. is.address)
+          (made_addresses newest its.or_addresses) (made_kept newest its.or_addresses d.or_addresses);
       flags = flags_ranged one.flags;
       bandwidths = record { bandwidth = is.known.bandwidth; measured = is.known.measured };
       micros = All-weaker IsFine IsMicroInRange (λ (line : MicroFacts) is. is.range)
-          (micros_of newest (micro_digest_of its) (family_digest_of its)) (relay_micros newest its);
+          (made_micros newest (is_some its.onion_key) (micro_digest_of its) (family_digest_of its))
+          (relay_micros newest its);
       ed = opinion_ranged one.descriptor.identity_ed25519 d.signer;
     }
 

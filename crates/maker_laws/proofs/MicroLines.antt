@@ -1,8 +1,8 @@
 -- The methods of a made vote and the `m` lines of its entries, by the newest method that is known.
 use Rattle.std.proofs.Common.{ℕ, ◌+◌, ◌≤◌, Bool, true, false, List, [], ◌∷◌, ◌++◌, length, length-append, map, Option}
 use Rattle.std.proofs.{Common.{Some, None, arith}, lemmas.{Fmt.length-decimal-le_succ, List.Elements.All-cons}}
-use Rattle.std.{proofs.lemmas.List.Elements.All-nil, specs.Prelude.{All, codes, decimal, option_map, if◌then◌else◌}}
-use Rattle.std.specs.{List.join_with_byte, Str.bytes_eq}
+use Rattle.std.{proofs.lemmas.List.Elements.All-nil, specs.Prelude.{All, codes, decimal, is_some, not, ◌&&◌}}
+use Rattle.std.specs.{Prelude.{option_map, if◌then◌else◌}, List.join_with_byte, Str.bytes_eq}
 use Rattle.count_terms.specs.declared.newest.Newest.{Newest}
 use Rattle.count_terms.specs.declared.newest.Newest.TheVariants as newest_is
 use Rattle.item_terms.specs.Bytes.{comma}
@@ -17,7 +17,7 @@ use Rattle.vote_pool.specs.Summaries.{digest_or, family_digest_of, micro_digest_
 use Rattle.vote_terms.specs.declared.entry.MicroFacts.{MicroFacts}
 use Rattle.vote_text.specs.Entries.{micro_line}
 use Rattle.vote_laws.{specs.Again.IsMicroInRange, proofs.Digests.thirty_two}
-use Rattle.vote_maker.specs.Entries.{made_methods, micro_of_digest, micros_of}
+use Rattle.vote_maker.specs.Entries.{knows_34, made_methods, made_micros, micro_of_digest, micros_of}
 
 abbrev Is32 : ℕ → Type 0
 Is32 n = n ≤ 4294967295
@@ -180,6 +180,10 @@ family_thirty_two d = by (micro_with_families d (summary_of d.policy))
     by (Some micro) = thirty_two (micro_text micro)
 
 pub relay_micros : (newest : Newest) (d : Descriptor)
-    → All IsFine (micros_of newest (micro_digest_of d) (family_digest_of d))
-relay_micros newest d =
-    micros_fine newest (micro_digest_of d) (family_digest_of d) (thirty_two (micro_text_of d)) (family_thirty_two d)
+    → All IsFine (made_micros newest (is_some d.onion_key) (micro_digest_of d) (family_digest_of d))
+relay_micros newest d = by (knows_34 newest && not (is_some d.onion_key))
+  where
+    by : (b : Bool) → All IsFine (if b then [] else micros_of newest (micro_digest_of d) (family_digest_of d))
+    by true = All-nil IsFine
+    by false =
+        micros_fine newest (micro_digest_of d) (family_digest_of d) (thirty_two (micro_text_of d)) (family_thirty_two d)

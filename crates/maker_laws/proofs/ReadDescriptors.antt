@@ -9,7 +9,15 @@ use Rattle.maker_laws.specs.Given.{IsDescriptor}
 -- what it says of its families is not asked for
 also_with : (newest : Newest) (d : Descriptor) → IsDescriptorInRange d → IsDescriptorInRange (as_read newest d)
 also_with Method33 d is = is
-also_with Method34 d is = is
+also_with Method34 d is = record {
+  router = is.router;
+  socks_port = is.socks_port;
+  published = is.published;
+  signer = is.signer;
+  platform = is.platform;
+  proto = is.proto;
+  or_addresses = is.or_addresses;
+}
 also_with Method35 d is = record {
   router = is.router;
   socks_port = is.socks_port;

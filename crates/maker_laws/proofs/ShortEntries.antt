@@ -1,7 +1,7 @@
 -- No line of an entry that is made of a descriptor in range is longer than a line may be.
 use Rattle.std.proofs.{Common.{ℕ, List, [], ◌∷◌, ◌++◌, map, Option, Some, None, arith}, lemmas.List.Elements.All-append}
 use Rattle.std.{proofs.lemmas.List.Elements.{All-cons, All-filter, All-head, All-nil, All-tail}, specs.Prelude.All}
-use Rattle.std.specs.Prelude.{IfSome, option_map, take}
+use Rattle.std.specs.Prelude.{IfSome, option_map}
 use Rattle.count_terms.specs.declared.newest.Newest.{Newest}
 use Rattle.dir_values.specs.FlagSets.{set_text}
 use Rattle.dirdoc_grammar.specs.Writing.{NewItem}
@@ -14,7 +14,7 @@ use Rattle.descriptor_laws.specs.ReadRanges.{IsShortAddress}
 use Rattle.vote_terms.specs.declared.entry.MicroFacts.{MicroFacts}
 use Rattle.vote_text.specs.Entries.{entries_items, entry_items, items_each, line_of, micro_items, micro_line}
 use Rattle.vote_maker.specs.Listings.{JudgedRelay, entry_of_judged, has_entry, listed_relays, made_entries}
-use Rattle.maker_laws.{specs.Lines.HasShortLine, proofs.EntryRanges.{IsJudgedInRange, entry_ranged}}
+use Rattle.maker_laws.{specs.Lines.HasShortLine, proofs.EntryRanges.{IsJudgedInRange, entry_ranged, made_kept}}
 use Rattle.maker_laws.proofs.{MadeLimits.line_short, MicroLines.{IsFine, relay_micros}, ShortTexts.IsMillion}
 use Rattle.maker_laws.proofs.ShortTexts.{bandwidths_short, key_short, names_short, platform_short, relay_short}
 use Rattle.maker_laws.proofs.ShortTexts.{rest_short}
@@ -37,15 +37,16 @@ pub line_if : (keyword : Keyword) (rest : Option (List ℕ)) → IfSome rest IsM
 line_if keyword None few = no_lines
 line_if keyword (Some rest) few = one_line keyword rest few
 
-addresses_short : (addresses : List (List ℕ)) → All IsShortAddress addresses
-    → AreShortLines (items_each the.A (take 1 addresses))
-addresses_short [] all = no_lines
-addresses_short (text ∷ rest) all =
-    one_line the.A text (omega (arith, (All-head IsShortAddress text rest all).short))
-
 infixl 10 ◌&◌
 pub ◌&◌ : {front back : List NewItem} → AreShortLines front → AreShortLines back → AreShortLines (front ++ back)
 ◌&◌ {front} {back} first second = record { each = All-append HasShortLine front back first.each second.each }
+
+addresses_short : (addresses : List (List ℕ)) → All IsShortAddress addresses
+    → AreShortLines (items_each the.A addresses)
+addresses_short [] all = no_lines
+addresses_short (text ∷ rest) all =
+    one_line the.A text (omega (arith, (All-head IsShortAddress text rest all).short))
+    & addresses_short rest (All-tail IsShortAddress text rest all)
 
 micros_short : (lines : List MicroFacts) → All IsFine lines → AreShortLines (micro_items lines)
 micros_short [] all = no_lines
@@ -63,7 +64,7 @@ entry_short newest one is =
     let in_range = entry_ranged newest one is in
     let d = is.descriptor in
     one_line the.R (line_of entry) (relay_short entry in_range.relay)
-    & addresses_short one.descriptor.or_addresses d.or_addresses
+    & addresses_short entry.addresses (made_kept newest one.descriptor.or_addresses d.or_addresses)
     & one_line the.S (set_text entry.flags) (names_short one.flags)
     & line_if the.V entry.version (platform_short one.descriptor.platform d.platform)
     & line_if the.Pr entry.protocols (rest_short one.descriptor.proto d.proto)

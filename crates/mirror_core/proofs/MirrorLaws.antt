@@ -7,7 +7,7 @@ use Rattle.key_port.specs.Answers.{Rules}
 use Rattle.mirror_core.proofs.{RowLaws.{found_has, rows_are, rows_have, taken_are, taken_have}, CertLaws.AreSound}
 use Rattle.mirror_core.{proofs.{CertLaws.each_taken, SignerLaws.by_majority}, specs.Laws.{AreRowsOf, HasDigest}}
 use Rattle.mirror_core.specs.{Laws.HaveDigests, Rows.{Rows, row_of, text_in}}
-use Rattle.mirror_core.specs.declared.{terms_refusal.MirrorRefusal.MirrorRefusal, report.CertReport.CertReport}
+use Rattle.mirror_core.specs.declared.{refusal.MirrorRefusal.MirrorRefusal, report.CertReport.CertReport}
 use Rattle.mirror_core.specs.{declared.report.MicroReport.MicroReport, Answers.{AnswersCerts, AnswersConsensus}}
 use Rattle.mirror_core.specs.Answers.{AnswersMicros, MicroTally, TakesCerts, TakesConsensus, TakesMicros, micro_with}
 use Rattle.mirror_core.specs.{Answers.{no_certs_yet, no_micros_yet, with_micro, with_micros}, Extent.consensus_part}

@@ -8,10 +8,10 @@ use Rattle.frame_terms.specs.declared.fault.ReadRefusal.TheVariants as read
 use Rattle.key_port.specs.Answers.{Rules}
 use Rattle.consensus_terms.specs.declared.consensus.SignedConsensus.{SignedConsensus}
 use Rattle.detached_sigs.specs.declared.key.SignerKey.{SignerKey}
-use Rattle.mirror_core.specs.{Rows.{Rows, rows_of}, declared.terms_refusal.MirrorRefusal.MirrorRefusal}
+use Rattle.mirror_core.specs.{Rows.{Rows, rows_of}, declared.refusal.MirrorRefusal.MirrorRefusal}
 use Rattle.mirror_core.specs.{Answers.{ConsensusRefused, IsSignedBy, TakesConsensus}, States.{HeldConsensus, Mirrored}}
 use Rattle.mirror_core.specs.{States.named, Lending.{IsMajority, IsNoMicrodesc, IsUnsigned}, Refusals.of_read}
-use Rattle.mirror_core.specs.declared.terms_refusal.MirrorRefusal.TheVariants as refusal
+use Rattle.mirror_core.specs.declared.refusal.MirrorRefusal.TheVariants as refusal
 
 -- why it does not count is why it is refused
 pub unsigned : (rules : Rules) (before : Mirrored) (begin : ℕ) (bytes : List ℕ) (why : MirrorRefusal)

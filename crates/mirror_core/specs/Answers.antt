@@ -18,13 +18,13 @@ use Rattle.detached_sigs.specs.declared.key.SignerKey.{SignerKey}
 use Rattle.micro_desc.specs.{Reading.micro_of, declared.micro.Micro.Micro}
 use Rattle.mirror_core.specs.Rows as shelf
 use Rattle.mirror_core.specs.{Rows.{Rows, rows_of, rows_after, taking_outcome}, declared.taken.Taken.Taken}
-use Rattle.mirror_core.specs.declared.{terms_refusal.MirrorRefusal.MirrorRefusal, report.CertReport.CertReport}
+use Rattle.mirror_core.specs.declared.{refusal.MirrorRefusal.MirrorRefusal, report.CertReport.CertReport}
 use Rattle.mirror_core.specs.{declared.report.MicroReport.MicroReport, Extent.{begin_of, consensus_part}, Inputs.AreAll}
 use Rattle.mirror_core.specs.{Inputs.FailsWith, Signers.{AreSignersOf, keys_of}, States.{HeldConsensus, KeptCert}}
 use Rattle.mirror_core.specs.States.{Mirrored, named, named_by}
 use Rattle.mirror_core.specs.Wanting as wanting
 use Rattle.mirror_core.specs.declared.taken.Taken.TheVariants as taken
-use Rattle.mirror_core.specs.declared.terms_refusal.MirrorRefusal.TheVariants as refusal
+use Rattle.mirror_core.specs.declared.refusal.MirrorRefusal.TheVariants as refusal
 
 -- ---- certificates
 

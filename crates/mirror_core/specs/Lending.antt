@@ -5,9 +5,9 @@ use Rattle.consensus_doc.specs.Reading.{consensus_of}
 use Rattle.frame_terms.specs.declared.fault.FrameFault.{FrameFault}
 use Rattle.frame_terms.specs.declared.fault.ReadRefusal.TheVariants as read
 use Rattle.blank_lines.specs.Behind.{fault_behind}
-use Rattle.mirror_core.specs.{declared.terms_refusal.MirrorRefusal.MirrorRefusal, Answers.ConsensusRefused}
-use Rattle.mirror_core.specs.States.{KeptCert, Mirrored, named}
-use Rattle.mirror_core.specs.declared.terms_refusal.MirrorRefusal.TheVariants as refusal
+use Rattle.mirror_core.specs.{declared.refusal.MirrorRefusal.MirrorRefusal, Answers.ConsensusRefused, States.KeptCert}
+use Rattle.mirror_core.specs.States.{Mirrored, named}
+use Rattle.mirror_core.specs.declared.refusal.MirrorRefusal.TheVariants as refusal
 use Rattle.dir_values.specs.{Digests.identity_below, declared.digest.Fingerprint.Fingerprint}
 use Rattle.count_terms.specs.Counts.{over}
 use Rattle.key_port.specs.Answers.{Rules}

@@ -1,7 +1,7 @@
 -- Lists of calls of a mirror.
 use Rattle.std.specs.Prelude.{ℕ, List, [], ◌∷◌, Result, ◌⊎◌}
 use Rattle.key_port.specs.Answers.{Rules}
-use Rattle.mirror_core.specs.declared.{terms_refusal.MirrorRefusal.MirrorRefusal, report.CertReport.CertReport}
+use Rattle.mirror_core.specs.declared.{refusal.MirrorRefusal.MirrorRefusal, report.CertReport.CertReport}
 use Rattle.mirror_core.specs.{declared.report.MicroReport.MicroReport, Answers.{AnswersCerts, AnswersConsensus}}
 use Rattle.mirror_core.specs.{Answers.AnswersMicros, States.Mirrored}
 

@@ -1,8 +1,8 @@
 -- What refusals of the crates below become.
 use Rattle.frame_terms.specs.declared.fault.ReadRefusal.{ReadRefusal}
 use Rattle.frame_terms.specs.declared.fault.ReadRefusal.TheVariants as read
-use Rattle.mirror_core.specs.declared.terms_refusal.MirrorRefusal.{MirrorRefusal}
-use Rattle.mirror_core.specs.declared.terms_refusal.MirrorRefusal.TheVariants as refusal
+use Rattle.mirror_core.specs.declared.refusal.MirrorRefusal.{MirrorRefusal}
+use Rattle.mirror_core.specs.declared.refusal.MirrorRefusal.TheVariants as refusal
 
 -- a document that was not read
 abbrev pub of_read : ReadRefusal → MirrorRefusal

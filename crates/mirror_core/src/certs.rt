@@ -8,8 +8,8 @@ ghost use Rattle.mirror_core.specs.{Tallies.cert_total, Lending.IsNoSigning};
 
 use crate::cert::HeldCert;
 use crate::cert_copies::with_cert;
+use crate::refusal::MirrorRefusal;
 use crate::report::CertReport;
-use crate::terms_refusal::MirrorRefusal;
 use authority_certs::{Cert, CertAnswer, check};
 use bytes::Bytes;
 use dir_bytes::Memory;

@@ -6,8 +6,7 @@ ghost use Rattle.mirror_core.specs.Answers as answers;
 ghost use Rattle.mirror_core.specs.{Answers.IsMicrodesc, Lending.{IsNoMicrodesc, IsNotNewer}};
 ghost use Rattle.mirror_core.specs.States as states;
 
-use crate::refusal::of_read;
-use crate::terms_refusal::MirrorRefusal;
+use crate::refusal::{MirrorRefusal, of_read};
 use blank_lines::refusal_behind;
 use consensus_terms::{Flavour, Routerline, SignedConsensus};
 use dir_bytes::Memory;

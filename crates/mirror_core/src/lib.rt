@@ -13,7 +13,6 @@ mod extent;
 mod held;
 mod inputs;
 mod kinds;
-mod law;
 mod laws;
 mod micro_laws;
 mod micros;
@@ -23,15 +22,16 @@ mod report;
 mod shelf;
 mod signing;
 mod taken;
-mod terms_refusal;
 mod wanting;
 
-pub use law::{a_refusal_changes_nothing, what_is_held, what_is_read_has_bytes, what_is_served};
-pub use laws::documents_have_bytes;
+pub use laws::{
+    a_refusal_changes_nothing, documents_have_bytes, what_is_held, what_is_read_has_bytes,
+    what_is_served,
+};
 pub use micro_laws::{rows_are_of_digests, what_is_wanted};
 pub use mirror::Mirror;
+pub use refusal::MirrorRefusal;
 pub use report::{CertReport, MicroReport};
 pub use shelf::Shelf;
 pub use taken::Taken;
-pub use terms_refusal::MirrorRefusal;
 pub use wanting::{MOST_WANTED, wanted};

@@ -6,7 +6,7 @@ ghost use Rattle.mirror_core.specs.Signers as signers;
 ghost use Rattle.mirror_core.specs.{Signers.AreSignersOf, Sound.CertsAscend, Lending.IsNoSigning};
 
 use crate::cert::{HeldCert, keys_of};
-use crate::terms_refusal::MirrorRefusal;
+use crate::refusal::MirrorRefusal;
 use consensus_terms::{SignatureLine, SignedConsensus};
 use detached_sigs::{SignerKey, signers_among};
 use dir_bytes::Memory;

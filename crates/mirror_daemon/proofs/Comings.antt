@@ -2,7 +2,7 @@
 use Rattle.std.{proofs.Common.{◌≡◌, List, [], ◌∷◌, ◌++◌, refl, sym, subst, inl, inr}, specs.Prelude.{ℕ, Result}}
 use Rattle.key_port.specs.Answers.{Rules}
 use Rattle.mirror_core.specs.{Answers.{AnswersCerts, AnswersConsensus, AnswersMicros}, Lists.{Calls, CallsLeave}}
-use Rattle.mirror_core.specs.{States.Mirrored, declared.terms_refusal.MirrorRefusal.MirrorRefusal}
+use Rattle.mirror_core.specs.{States.Mirrored, declared.refusal.MirrorRefusal.MirrorRefusal}
 use Rattle.mirror_core.specs.declared.report.{CertReport.CertReport, MicroReport.MicroReport}
 use Rattle.mirror_daemon.specs.Keeping.{ComesOf, last_of}
 

@@ -6,13 +6,13 @@
 
 mod answer;
 mod change;
+mod checked_sig;
 mod entry;
 mod event;
 mod name;
 mod short_bytes;
 mod signature;
 mod signature_lines;
-mod signature_signature;
 mod stage;
 mod state;
 mod view;
@@ -20,13 +20,13 @@ mod vote;
 
 pub use answer::{Advance, Answer, Offer, SignIn};
 pub use change::{Change, ChangeKind};
+pub use checked_sig::CheckedSig;
 pub use entry::Entry;
 pub use event::{Event, Signing, Via};
 pub use name::Name;
 pub use short_bytes::ShortBytes;
 pub use signature::OfferedSignature;
 pub use signature_lines::{has_line, own_line, put_line, signers_in};
-pub use signature_signature::CheckedSig;
 pub use stage::Stage;
 pub use state::State;
 pub use view::PeriodView;

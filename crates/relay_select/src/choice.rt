@@ -141,7 +141,7 @@ fn choice_with<'a>(
 {
     let digest = tuple.digest();
     let nickname = Text::copy_of(alloc, tuple.nickname())?;
-    let a = address(alloc, entries, tuple, lines)?;
+    let a = address(alloc, entries, method, tuple, lines)?;
     let m = micro(entries, method, digest, digests)?;
     let v = version(alloc, entries, versions)?;
     let pr = text(alloc, entries, Field::Protocols, lines)?;
@@ -202,12 +202,13 @@ fn copy_of_version(alloc: Global, lines: &[VersionLine<'_>]) -> Result<Option<Te
 fn address<'a>(
     alloc: Global,
     entries: &[Entry<'a>],
+    method: u32,
     tuple: &RelayTuple<'a>,
     lines: &mut Vec<Line<'a>>,
 ) -> Result<Option<Text>, Memory>
-    ensures { IfOk result (λ text. text ≡ terms.chosen_address tuple.now entries.now) }
+    ensures { IfOk result (λ text. text ≡ terms.chosen_address method tuple.now entries.now) }
 {
-    addresses(entries, tuple, lines)?;
+    addresses(entries, method, tuple, lines)?;
     copy_of(alloc, lines)
 }
 

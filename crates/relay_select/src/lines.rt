@@ -5,6 +5,7 @@ ghost use Rattle.relay_select.specs.Fields as fields;
 
 use crate::micro::Micro;
 use crate::tuple::RelayTuple;
+use consensus_terms::is_34_or_later;
 use dir_bytes::Memory;
 use dir_values::{Digest1, Digest2};
 use field_votes::{Ballot, Line, VersionLine};
@@ -72,28 +73,52 @@ fn push_version<'a>(lines: &mut Vec<VersionLine<'a>>, text: Option<&'a [u8]>) ->
     Ok(())
 }
 
-/// The first `a` line of an entry that has this tuple.
-fn address_with<'a>(entry: &Entry<'a>, tuple: &RelayTuple<'_>) -> Option<&'a [u8]>
-    ensures { option_map (λ text. text.now) result ≡ terms.address_with tuple.now entry.now }
+/// Whether an address is one of IPv6.
+fn is_ipv6(address: &[u8]) -> bool
+    ensures { result ≡ terms.is_ipv6 address.now }
+{
+    address.starts_with(b"[")
+}
+
+/// The address of an `a` line, where it counts by this method.
+fn counted_address<'a>(method: u32, address: Option<&'a [u8]>) -> Option<&'a [u8]>
+    ensures { option_map (λ text. text.now) result ≡ terms.counted_address method (option_map (λ text. text.now) address.entry) }
+{
+    match address {
+        Some(text) => {
+            if is_34_or_later(method) && !is_ipv6(text) {
+                None
+            } else {
+                Some(text)
+            }
+        }
+        None => None,
+    }
+}
+
+/// The first `a` line of an entry that has this tuple, where it counts by this method.
+fn address_with<'a>(entry: &Entry<'a>, method: u32, tuple: &RelayTuple<'_>) -> Option<&'a [u8]>
+    ensures { option_map (λ text. text.now) result ≡ terms.address_with method tuple.now entry.now }
 {
     if RelayTuple::of(entry).compare(tuple).is_eq() {
-        entry.a()
+        counted_address(method, entry.a())
     } else {
         None
     }
 }
 
-/// Replaces what is in `lines` by the first `a` lines of those of these entries that have this tuple.
+/// Replaces what is in `lines` by the first `a` lines of those of these entries that have this tuple, as far as they count.
 pub fn addresses<'a>(
     entries: &[Entry<'a>],
+    method: u32,
     tuple: &RelayTuple<'_>,
     lines: &mut Vec<Line<'a>>,
 ) -> Result<(), Memory>
-    ensures { OnOk result (lines.new.items ≡ filter_map (terms.address_with tuple.now) entries.now) }
+    ensures { OnOk result (lines.new.items ≡ filter_map (terms.address_with method tuple.now) entries.now) }
 {
     lines.clear();
     'entries: for entry in entries {
-        push_text(lines, address_with(entry, tuple))?;
+        push_text(lines, address_with(entry, method, tuple))?;
     }
     Ok(())
 }

@@ -1,5 +1,5 @@
 -- An item without its places, and what a document's items say in their order, without places.
-use Rattle.std.{proofs.Common.{◌≡◌, ℕ, List, [], ◌∷◌, ◌++◌, Option, Some, None, refl, ap}, specs.Prelude.map}
+use Rattle.std.{proofs.Common.{◌≡◌, ℕ, false, List, [], ◌∷◌, ◌++◌, Option, Some, None, refl, ap}, specs.Prelude.map}
 use Rattle.std.specs.Prelude.{slice_get}
 use Rattle.item_terms.specs.Items.{Item, Object}
 use Rattle.dirdoc_grammar.specs.{Bodies.body_text, Writing.{NewItem, NewObject, tail, written, written_object_if}}
@@ -40,7 +40,7 @@ new_words r = record { separator = slice_get (tail r.rest) 0; arguments = r.rest
 
 -- the item
 abbrev pub new_item : Keyword → Rest → NewItem
-new_item keyword r = record { keyword = text_of keyword; arguments = r.rest; object = r.object }
+new_item keyword r = record { keyword = text_of keyword; arguments = r.rest; spaced = false; object = r.object }
 
 same_object : (place : ℕ) (object : Option NewObject) → object_words (written_object_if place object)
     ≡ new_object object

@@ -1,6 +1,6 @@
 -- An item that may be written suits its row wherever it stands, and says there what it means.
-use Rattle.std.proofs.Common.{◌≡◌, ℕ, zero, suc, ◌+◌, List, [], ◌∷◌, ◌++◌, length, Option, Some, Result, Ok, Err, refl}
-use Rattle.std.{proofs.{Common.{ap, subst, ◌∙◌, arith}, lemmas.Bool.and_right}, specs.Prelude.IfSome}
+use Rattle.std.proofs.Common.{◌≡◌, ℕ, zero, suc, ◌+◌, false, List, [], ◌∷◌, ◌++◌, length, Option, Some, Result, Ok, Err}
+use Rattle.std.{proofs.{Common.{refl, ap, subst, ◌∙◌, arith}, lemmas.Bool.and_right}, specs.Prelude.IfSome}
 use Rattle.item_terms.specs.Words.{begins_dash}
 use Rattle.dirdoc_grammar.specs.Writing.{AreWritable, IsWritable, IsWritableObject, NewItem, is_open, item_text}
 use Rattle.dirdoc_grammar.specs.Writing.{written}
@@ -45,6 +45,7 @@ module _ {S K V X F : Type 0} (tables : Tables S K V X) (m : Meaning K V F)
   entry_of row f = record {
     keyword = row.keyword;
     rest = (m.write row.kind f).rest;
+    spaced = false;
     object = (m.write row.kind f).object;
     value = λ p. value_or m.none (tables.value_of tables.start row.kind (written p (item_of_row row f)));
   }

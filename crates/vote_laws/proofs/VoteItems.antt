@@ -180,6 +180,7 @@ abbrev pub signature_entry : SignatureFacts → VoteEntry
 signature_entry s = record {
   keyword = the.DirectorySignature;
   rest = signer_text s;
+  spaced = false;
   object = Some (record { words = codes "SIGNATURE"; bytes = s.signature });
   value = λ p. value.Own (own.Signature (signature_at p the.DirectorySignature s));
 }

@@ -1,6 +1,7 @@
 -- The entry of a relay in a vote that an authority makes (dir-spec, "Vote and consensus status document formats").
-use Rattle.std.specs.Prelude.{ℕ, List, [], ◌∷◌, ◌++◌, take, Option, Some, None, option_and_then, codes, if◌then◌else◌}
-use Rattle.std.specs.Str.{bytes_eq}
+use Rattle.std.specs.Prelude.{ℕ, ◌==◌, nat_eq, nat_le, Bool, true, false, not, ◌&&◌, ◌||◌, List, [], ◌∷◌, ◌++◌, take}
+use Rattle.std.specs.{Prelude.{Option, Some, None, is_some, option_and_then, codes, if◌then◌else◌}, List.find}
+use Rattle.std.specs.{List.starts_with, Str.bytes_eq}
 use Rattle.count_terms.specs.declared.newest.Newest.{Newest, TheVariants.{Method33, Method34, Method35}}
 use Rattle.item_terms.specs.{Bytes.space, Words.words_of}
 use Rattle.dir_values.specs.{Ports.summary_text, declared.digest.Digest2.Digest2}
@@ -12,6 +13,12 @@ use Rattle.relay_entries.specs.declared.said.EdOpinion.TheVariants as opinion
 use Rattle.vote_terms.specs.declared.entry.{EntryFacts.EntryFacts, MicroFacts.MicroFacts}
 use Rattle.flag_rules.specs.{Names.names_of, declared.{flags.Flags.Flags, relay.RelayFacts.RelayFacts}}
 use Rattle.vote_pool.specs.Summaries.{family_digest_of, micro_digest_of}
+
+-- whether 34 is one of the methods up to this one: then a made vote follows C tor
+abbrev pub knows_34 : Newest → Bool
+knows_34 Method33 = false
+knows_34 Method34 = true
+knows_34 Method35 = true
 
 -- ---- methods and microdescriptors
 
@@ -37,6 +44,41 @@ abbrev pub micros_of : Newest → Digest2 → Digest2 → List MicroFacts
 micros_of Method33 digest family = micro_of_digest (made_methods Method33) digest ∷ []
 micros_of Method34 digest family = micro_of_digest (made_methods Method34) digest ∷ []
 micros_of Method35 digest family = both_micros digest family
+
+-- those of a relay with an RSA onion key or without: without one there are none where 34 is known
+abbrev pub made_micros : Newest → Bool → Digest2 → Digest2 → List MicroFacts
+made_micros newest has_key digest family =
+    if knows_34 newest && not has_key then [] else micros_of newest digest family
+
+-- ---- the address
+
+-- whether an address is one of IPv6, which stands in brackets
+abbrev pub is_ipv6 : List ℕ → Bool
+is_ipv6 address = starts_with nat_eq address (codes "[")
+
+-- whether a byte is a digit or a small letter
+abbrev pub is_small : ℕ → Bool
+is_small byte = (nat_le 48 byte && nat_le byte 57) || (nat_le 97 byte && nat_le byte 122)
+
+-- whether a byte is a capital letter
+abbrev pub is_capital : ℕ → Bool
+is_capital byte = nat_le 65 byte && nat_le byte 90
+
+-- whether these bytes are without capital letters, and without a zero in front of a word; the first may begin a word or
+-- not, and stand behind such a zero or not
+abbrev pub is_plain : Bool → Bool → List ℕ → Bool
+is_plain begins zero [] = true
+is_plain begins zero (byte ∷ rest) =
+    not ((zero && is_small byte) || is_capital byte) && is_plain (not (is_small byte)) (begins && byte == 48) rest
+
+-- an address, where it is written without these
+abbrev pub if_plain : Option (List ℕ) → List (List ℕ)
+if_plain None = []
+if_plain (Some address) = if is_plain true false address then address ∷ [] else []
+
+-- the address of the `a` line: the first; but where 34 is known the first of IPv6, if it is written so
+abbrev pub made_addresses : Newest → List (List ℕ) → List (List ℕ)
+made_addresses newest addresses = if knows_34 newest then if_plain (find is_ipv6 addresses) else take 1 addresses
 
 -- ---- what else an entry says
 
@@ -70,12 +112,12 @@ made_entry newest d known flags = record {
   ip = d.router.ip;
   or_port = d.router.or_port;
   dir_port = d.router.dir_port;
-  addresses = take 1 d.or_addresses;
+  addresses = made_addresses newest d.or_addresses;
   flags = names_of flags;
   version = option_and_then version_of_platform d.platform;
   protocols = d.proto;
   bandwidths = Some (made_bandwidths known);
   policy = Some (summary_text (summary_of d.policy));
-  micros = micros_of newest (micro_digest_of d) (family_digest_of d);
+  micros = made_micros newest (is_some d.onion_key) (micro_digest_of d) (family_digest_of d);
   ed = opinion_of d.identity_ed25519;
 }

@@ -1,9 +1,10 @@
 // The entry of a relay.
-ghost use Rattle.std.specs.Prelude.{◌≡◌, IfOk, [], ◌∷◌, take};
+ghost use Rattle.std.specs.Prelude.{◌≡◌, IfOk, [], ◌∷◌};
 ghost use Rattle.dir_values.specs.Ports.{summary_text};
 ghost use Rattle.vote_maker.specs.Entries as entries;
 ghost use Rattle.vote_maker.specs.Private as walks;
 
+use crate::address::made_addresses;
 use crate::copies::{copy, copy_if};
 use crate::version::version_of;
 use count_terms::Newest;
@@ -23,6 +24,17 @@ const TO_METHOD_34: [u32; 3] = [32, 33, 34];
 const TO_METHOD_35: [u32; 4] = [32, 33, 34, 35];
 
 const METHOD_35: [u32; 1] = [35];
+
+/// Whether 34 is one of the methods up to this one.
+pub(crate) fn knows_34(newest: Newest) -> bool
+    ensures { result ≡ entries.knows_34 newest }
+{
+    match newest {
+        Newest::Method33 => false,
+        Newest::Method34 => true,
+        Newest::Method35 => true,
+    }
+}
 
 /// The consensus methods from 32 up to the newest that is known.
 fn methods_to(newest: Newest) -> &'static [u32]
@@ -53,17 +65,6 @@ pub(crate) fn made_methods(alloc: Global, newest: Newest) -> Result<Seq<u32>, Me
     ensures { IfOk result (λ methods. methods ≡ entries.made_methods newest) }
 {
     copy_of(alloc, methods_to(newest))
-}
-
-/// The first of some addresses, where there is one.
-fn first_address(alloc: Global, addresses: &[Text]) -> Result<Seq<Text>, Memory>
-    ensures { IfOk result (λ first. first ≡ take 1 addresses.now) }
-{
-    let mut first = Vec::new(alloc);
-    if let Some(address) = addresses.first() {
-        first.push(copy(alloc, address)?)?;
-    }
-    Ok(Seq::new(first))
 }
 
 /// The text of a summary of ports.
@@ -135,6 +136,26 @@ fn micro_lines(
     }
 }
 
+/// The `m` lines of a relay with an RSA onion key or without.
+///
+/// # Errors
+/// `Memory` is want of memory.
+fn made_micros(
+    alloc: Global,
+    newest: Newest,
+    has_key: bool,
+    digest: &Digest2,
+    family: &Digest2,
+) -> Result<Seq<MicroFacts>, Memory>
+    ensures { IfOk result (λ lines. lines ≡ entries.made_micros newest has_key digest.now family.now) }
+{
+    if knows_34(newest) && !has_key {
+        Ok(Seq::new(Vec::new(alloc)))
+    } else {
+        micro_lines(alloc, newest, digest, family)
+    }
+}
+
 /// The Ed25519 identity, where there is one.
 fn opinion_of(key: &Option<[u8; 32]>) -> EdOpinion
     ensures { result ≡ walks.opinion_of_key key.now }
@@ -178,13 +199,19 @@ pub(crate) fn made_entry<V: Verifier>(
         ip: descriptor.router.ip,
         or_port: descriptor.router.or_port,
         dir_port: descriptor.router.dir_port,
-        addresses: first_address(alloc, descriptor.or_addresses.as_slice())?,
+        addresses: made_addresses(alloc, newest, descriptor.or_addresses.as_slice())?,
         flags: flags.names(alloc)?,
         version: version_of(alloc, &descriptor.platform)?,
         protocols: copy_if(alloc, &descriptor.proto)?,
         bandwidths: Some(bandwidths_of(known)),
         policy: Some(policy_text(alloc, entry.summary())?),
-        micros: micro_lines(alloc, newest, entry.micro_digest(), entry.family_digest())?,
+        micros: made_micros(
+            alloc,
+            newest,
+            descriptor.has_onion_key,
+            entry.micro_digest(),
+            entry.family_digest(),
+        )?,
         ed: opinion_of(&descriptor.ed_key),
     })
 }

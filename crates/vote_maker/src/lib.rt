@@ -1,6 +1,7 @@
 //! The vote that an authority makes: of what it is given and of the descriptors that it holds, signed.
 #![tactic(auto)]
 
+mod address;
 mod copies;
 mod entry;
 mod facts;

@@ -1,5 +1,5 @@
 -- What a pool keeps of a descriptor.
-use Rattle.std.specs.Prelude.{◌≡◌, ℕ, List, Option, Some, None}
+use Rattle.std.specs.Prelude.{◌≡◌, ℕ, List, Option, Some, None, is_some}
 use Rattle.dir_values.specs.{Ports.Ports, declared.digest.Digest2.Digest2}
 use Rattle.descriptor_frame.specs.declared.certificate.EdCert.{EdCert}
 use Rattle.key_port.specs.Answers.{Rules}
@@ -17,6 +17,7 @@ abbrev pub kept_of : Descriptor → KeptDescriptor
 kept_of d = record {
   router = d.router;
   ed_key = signer_of d.identity_ed25519;
+  has_onion_key = is_some d.onion_key;
   platform = d.platform;
   published = d.published;
   uptime = d.uptime;

@@ -15,6 +15,8 @@ pub struct KeptDescriptor {
     pub router: Router,
     /// Its Ed25519 identity key: the signer of its certificate.
     pub ed_key: Option<[u8; 32]>,
+    /// Whether it has an RSA onion key.
+    pub has_onion_key: bool,
     /// The software and the system that it runs on.
     pub platform: Option<Text>,
     /// When the descriptor was made, in seconds since 1970-01-01 00:00:00 UTC.
@@ -56,6 +58,7 @@ pub(crate) fn kept_of(descriptor: Descriptor) -> KeptDescriptor
     KeptDescriptor {
         ed_key: signer_of(&descriptor.identity_ed25519),
         router: descriptor.router,
+        has_onion_key: descriptor.onion_key.is_some(),
         platform: descriptor.platform,
         published: descriptor.published,
         uptime: descriptor.uptime,

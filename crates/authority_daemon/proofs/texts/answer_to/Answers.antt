@@ -1,6 +1,6 @@
-use Rattle.std.proofs.Common.{◌<◌, length, refl, rules}
-use Rattle.authority_daemon.{specs.Commands.{asks_clock, may}, proofs.Asking.{behind_stay, counted, first_is}}
-use Rattle.authority_daemon.proofs.{Asking.{none_asked, tells, vote_answered, vote_unasked}, Ending.on_true}
+use Rattle.std.proofs.Common.{◌<◌, length, Some, refl, rules}
+use Rattle.authority_daemon.{specs.Commands.{may, uses}, proofs.Asking.{behind_stay, counted, first_is, none_asked}}
+use Rattle.authority_daemon.proofs.{Asking.{tells, vote_answered, vote_unasked}, Ending.on_true}
 use Rattle.authority_daemon.proofs.texts.answer_to.Goals as goal
 
 pub returns-in-MakeVote-clause-answer : goal.returns-in-MakeVote-clause-answer
@@ -27,7 +27,7 @@ returns-in-MakeVote-clause-answer g c =
           c.index_mut-in-MakeVote.ensures.value
           (vote_unasked _ c.args.command.now c.vote.result _ c.in-MakeVote.is c.vote.ensures.unasked);
       timed =
-          λ answered. on_true (asks_clock c.args.command.now) _
+          λ answered. on_true (uses (Some c.args.command.now)).clock _
           (counted g.C.Clock.asks c.args.outside.now.clocks.items c.index_mut.result.now
           c.vote.new.clock clocks c.index_mut.ensures.value c.vote.ensures.clock);
       other_clocks = behind_stay c.args.outside.now.clocks.items c.vote.new.clock;

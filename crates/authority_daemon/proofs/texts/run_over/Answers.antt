@@ -2,8 +2,8 @@ use Rattle.std.{proofs.Common.{rules, refl, ◌≡◌, List, ℕ, Option, Some, 
 use Rattle.std.specs.Prelude.{take}
 use Rattle.daemon_words.specs.declared.stop.Stop.TheVariants as stop
 use Rattle.authority_daemon.{specs.{Commands.{Answers, may}, Runs.first_count}, proofs.Ending.{as_refused, done}}
-use Rattle.authority_daemon.proofs.Ending.{failed, gathered, has_ended, is_within, over_input, refused, tells_refusal}
-use Rattle.authority_daemon.proofs.Ending.{told_at_once}
+use Rattle.authority_daemon.proofs.Ending.{failed, gathered, has_ended, is_within, on_true, over_input, refused}
+use Rattle.authority_daemon.proofs.Ending.{tells_refusal, told_at_once}
 use Rattle.authority_daemon.proofs.texts.run_over.Goals as goal
 
 pub returns-in-Done-clause-run : goal.returns-in-Done-clause-run
@@ -28,7 +28,7 @@ returns-in-Done-clause-run g c =
       limit =
           over_input (Some c.args.command.now) c.args.command.now _ _ refl (gathered c.args.command.now c.requires.input)
           (λ c1 names. is_within _ _ c.in-Ok.bytes c.in-Ok.ensures.whole);
-      read = λ c1 names. has_ended _ _ _ c.in-Ok.bytes kept c.in-Ok.ensures.whole c1;
+      read = on_true _ _ (has_ended _ _ _ c.in-Ok.bytes kept c.in-Ok.ensures.whole);
       stops = search rules;
       unread = search rules;
       source = search rules;
@@ -70,7 +70,7 @@ returns-in-Ok-answer-clause-run g c =
       limit =
           over_input (Some c.args.command.now) c.args.command.now _ _ refl (gathered c.args.command.now c.requires.input)
           (λ c1 names. is_within _ _ c.in-Ok.bytes c.in-Ok.ensures.whole);
-      read = λ c1 names. has_ended _ _ _ c.in-Ok.bytes kept c.in-Ok.ensures.whole c1;
+      read = on_true _ _ (has_ended _ _ _ c.in-Ok.bytes kept c.in-Ok.ensures.whole);
       stops = search rules;
       unread = search rules;
       source = search rules;
@@ -110,7 +110,7 @@ returns-clause-run g c =
       limit =
           over_input (Some c.args.command.now) c.args.command.now _ _ refl (gathered c.args.command.now c.requires.input)
           (λ c1 names. is_within _ _ c.in-Ok.bytes c.in-Ok.ensures.whole);
-      read = λ c1 names. has_ended _ _ _ c.in-Ok.bytes kept c.in-Ok.ensures.whole c1;
+      read = on_true _ _ (has_ended _ _ _ c.in-Ok.bytes kept c.in-Ok.ensures.whole);
       stops = search rules;
       unread = search rules;
       source = search rules;

@@ -4,5 +4,5 @@ use Rattle.consensus_calc.proofs.randoms.agreed_random.Given as goal
 
 abbrev pub invariant-votes : goal.invariant-votes
 invariant-votes l =
-    find (is_agreed l.line l.roster l.votes.votes) (filter_map (random_of l.line) (drop l.i l.votes.votes))
-    ≡ agreed_random l.line l.roster l.votes.votes
+    find (is_agreed l.line l.roster l.least l.votes.votes) (filter_map (random_of l.line) (drop l.i l.votes.votes))
+    ≡ agreed_random l.line l.roster l.least l.votes.votes

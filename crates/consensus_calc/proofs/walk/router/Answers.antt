@@ -11,7 +11,7 @@ returns-then-not-is_listed-clause-value c =
     let said = listings_at votes c.args.group.now in
     let inc : included_part c.args.roster (eds_of said) ≡ Some c.in-Some.part =
     ap (λ (eds : List EdOpinion). included_part c.args.roster eds) (sym (c.deref.ensures.value ∙ c.in_ok-eds_at.ensures.ok)) ∙ sym c.included_part.ensures ∙ c.in-Some.is in
-    let f : IsFound c.args.roster votes said (listings_at votes c.deref-2.result.now) c.in-Some.part c.in_ok-set.set = record {
+    let f : IsFound c.args.roster c.args.method votes said (listings_at votes c.deref-2.result.now) c.in-Some.part c.in_ok-set.set = record {
       included = inc;
       kept_are = ap (listings_at votes) c.deref-2.ensures.value ∙ c.in_ok-keep_belonging.ensures.listings;
       flags_are = c.in_ok-set.ensures;
@@ -24,7 +24,7 @@ returns-clause-value c =
     let said = listings_at votes c.args.group.now in
     let inc : included_part c.args.roster (eds_of said) ≡ Some c.in-Some.part =
     ap (λ (eds : List EdOpinion). included_part c.args.roster eds) (sym (c.deref.ensures.value ∙ c.in_ok-eds_at.ensures.ok)) ∙ sym c.included_part.ensures ∙ c.in-Some.is in
-    let f : IsFound c.args.roster votes said (listings_at votes c.deref-2.result.now) c.in-Some.part c.in_ok-set.set = record {
+    let f : IsFound c.args.roster c.args.method votes said (listings_at votes c.deref-2.result.now) c.in-Some.part c.in_ok-set.set = record {
       included = inc;
       kept_are = ap (listings_at votes) c.deref-2.ensures.value ∙ c.in_ok-keep_belonging.ensures.listings;
       flags_are = c.in_ok-set.ensures;

@@ -7,7 +7,7 @@ use Rattle.consensus_calc.proofs.walk.routers.Given as goal
 
 abbrev pub invariant-relays : goal.invariant-relays
 invariant-relays l = record {
-  lines : l.lines.items ++ filter_map (router_of l.roster l.method l.limit l.votes.votes) (map (λ (g : Group). g.identity) l.walk.left) ≡ routers l.roster l.method l.limit l.votes.votes;
+  lines : l.lines.items ++ filter_map (router_of l.roster l.method l.fn.limit l.votes.votes) (map (λ (g : Group). g.identity) l.walk.left) ≡ routers l.roster l.method l.fn.limit l.votes.votes;
   groups : l.walk.left ≡ map (group_of l.votes.votes) (map (λ (g : Group). g.identity) l.walk.left);
   moments : All (λ (line : Routerline). line.published ≤ last_moment) l.lines.items;
   votes : l.walk.votes ≡ length l.votes.votes;

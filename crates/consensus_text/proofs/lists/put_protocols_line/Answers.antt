@@ -1,16 +1,18 @@
-use Rattle.std.proofs.Common.{sym, ◌∙◌}
+use Rattle.std.{proofs.Common.{Bool, sym, ap, ◌∙◌}, specs.Prelude.{not, ◌||◌}}
 use Rattle.list_values.specs.Protocols.{protocols_text}
 use Rattle.text_page.proofs.Pages.{also, same_text, with_text-nothing}
-use Rattle.consensus_text.proofs.Joined.{no_line, line_of_list}
+use Rattle.consensus_text.proofs.Joined.{line_by, no_line_by}
 use Rattle.consensus_text.proofs.lists.put_protocols_line.Goals as goal
 
-pub returns-then-not-is_empty : goal.returns-then-not-is_empty
-returns-then-not-is_empty c =
-    same_text _ _ _ _ (line_of_list protocols_text _ c.args.protocols.now (sym c.is_empty.ensures ∙ c.if-not-is_empty.true))
+pub returns-then-has_line : goal.returns-then-has_line
+returns-then-has_line c =
+    let stands = ap (λ (empty : Bool). c.args.always || not empty) (sym c.is_empty.ensures) ∙ sym c.has_line.ensures ∙ c.if-has_line.true in
+    same_text _ _ _ _ (line_by protocols_text _ c.args.always c.args.protocols.now stands)
     (also _ _ _ _ _
-    (also _ _ _ _ _ (also _ _ _ _ _ c.put.ensures c.put-then-not-is_empty.ensures) c.put-then-not-is_empty-2.ensures)
-    c.put-then-not-is_empty-3.ensures)
+    (also _ _ _ _ _ (also _ _ _ _ _ c.put.ensures c.put-then-has_line.ensures) c.put-then-has_line-2.ensures)
+    c.put-then-has_line-3.ensures)
 
-pub returns-else-not-is_empty : goal.returns-else-not-is_empty
-returns-else-not-is_empty c =
-    same_text _ _ _ _ (no_line protocols_text _ c.args.protocols.now (sym c.is_empty.ensures ∙ c.if-not-is_empty.false)) (sym (with_text-nothing _))
+pub returns-else-has_line : goal.returns-else-has_line
+returns-else-has_line c =
+    let none = ap (λ (empty : Bool). c.args.always || not empty) (sym c.is_empty.ensures) ∙ sym c.has_line.ensures ∙ c.if-has_line.false in
+    same_text _ _ _ _ (no_line_by protocols_text _ c.args.always c.args.protocols.now none) (sym (with_text-nothing _))

@@ -6,13 +6,13 @@ use Rattle.field_votes.proofs.protocol_votes.listed_mask.Goals as goal
 
 pub numbers-init : goal.numbers-init
 numbers-init c = record {
-  mask = sym (start (is_listed_number c.args.lists.now c.args.name.now));
+  mask = sym (start (is_listed_number c.args.least c.args.lists.now c.args.name.now));
   within = omega arith;
 }
 
 pub numbers-preserved : goal.numbers-preserved
 numbers-preserved c =
-    let test : ℕ → Bool = is_listed_number c.args.lists.now c.args.name.now in
+    let test : ℕ → Bool = is_listed_number c.args.least c.args.lists.now c.args.name.now in
     let n = c.numbers.number in
     let one : suc n ≡ n + 1 = omega arith in
     let before = mask_below test n in

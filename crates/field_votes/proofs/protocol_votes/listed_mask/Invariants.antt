@@ -4,7 +4,7 @@ use Rattle.field_votes.proofs.protocol_votes.listed_mask.Given as goal
 
 abbrev pub invariant-numbers : goal.invariant-numbers
 invariant-numbers l = record {
-  mask : l.mask ≡ mask_below (is_listed_number l.lists l.name) l.number;
+  mask : l.mask ≡ mask_below (is_listed_number l.least l.lists l.name) l.number;
   within : l.number ≤ 64;
 }
 

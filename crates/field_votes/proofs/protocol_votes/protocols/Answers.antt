@@ -12,12 +12,13 @@ new-requires c =
     let lists = c.args.lists.now in
     let names : c.deref.result.now ≡ all_names lists = c.deref.ensures.value ∙ c.in_ok-names.ensures in
     subst Ascend (sym c.in_ok-items.ensures)
-    (ascend_among (listed_mask lists) (λ (name : List ℕ). not (listed_mask lists name == 0)) c.deref.result.now
+    (ascend_among (listed_mask c.args.least lists) (λ (name : List ℕ). not (listed_mask c.args.least lists name == 0)) c.deref.result.now
     (subst flag_sets.Ascend (sym names) (Ascend-as_set (flat_map names_of lists))))
 
 pub returns : goal.returns
 returns c =
     let lists = c.args.lists.now in
     let names : c.deref.result.now ≡ all_names lists = c.deref.ensures.value ∙ c.in_ok-names.ensures in
-    c.new.ensures ∙ ap all_listed c.in_ok-items.ensures ∙ listed_among lists c.deref.result.now
-    ∙ ap (λ (l : List (List ℕ)). map (λ (name : List ℕ). named_value name (listed_numbers lists name)) (filter (is_listed_protocol lists) l)) names
+    c.new.ensures ∙ ap all_listed c.in_ok-items.ensures ∙ listed_among c.args.least lists c.deref.result.now
+    ∙ ap (λ (l : List (List ℕ)). map (λ (name : List ℕ). named_value name (listed_numbers c.args.least lists name))
+    (filter (is_listed_protocol c.args.least lists) l)) names
