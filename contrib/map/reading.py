@@ -1,7 +1,7 @@
 #!/usr/bin/env python3
 """Counts what a reader of a promise has to believe: the definitions that it reaches, and their lines of code.
 
-usage: reading.py [--list] [compute|serve|mirror]
+usage: reading.py [--list] [compute|serve|compute_says|serve_says|mirror]
        reading.py [--check]
 With a name it prints the numbers of that promise; with --list each definition too, by its crate and file. Without one it writes the
 rows of the table in docs/CLAIMS.md whose first column is "Promise"; with --check it writes nothing, and the status is 1 where one differs.
@@ -24,6 +24,8 @@ COMMANDS = set("Compute Check Show MakeVote Rehearse Report Serve".split())
 ROOTS = {
     "compute": ("Compute", ["authority_daemon/World::IsRun"], []),
     "serve": ("Serve", ["authority_daemon/Served::IsServed"], []),
+    "compute_says": ("Compute", ["headline/Headline::IsComputedAlone"], []),
+    "serve_says": ("Serve", ["headline/Headline::ServesRightly"], []),
     "mirror": (
         None,
         ["mirror_core/Sound::IsSound", *(f"mirror_serve/{it}" for it in ("GivenTexts::IsSignedText", "GivenTexts::AreCheckedTexts"))],
