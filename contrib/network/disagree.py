@@ -10,8 +10,9 @@ import faults
 # The versions of tor that authorities vote, in turn, beside none of which another stands.
 VERSIONS = "0.4.9.%d"
 
-# How many of ours vote the protocols without the newest version of each: of five authorities those that vote the newest are
-# then more than half, but less than two thirds, and half where one of them is away.
+# How many of ours at most vote the protocols without the newest version of each. With two, of five authorities those that vote
+# the newest are more than half, but less than two thirds, and less than half where one of them is away; with one, they are two
+# thirds, and where one of them is away more than half alone.
 OLDER = 2
 
 # The lines of a vote with versions, and those with protocols.

@@ -48,7 +48,7 @@ from starting import MOST_AUTHORITIES, MOST_RELAYS, READY
 LEAST_RELAYS, LEAST_OF_FAMILIES = 3, 4
 
 # The least of ours and of C tors into whose network faults are put, and those that can disagree.
-LEAST_OF_FAULTS, LEAST_OF_DISAGREE = (3, 2), (2, 2)
+LEAST_OF_FAULTS, LEAST_OF_DISAGREE = (3, 2), (1, 2)
 
 # The most periods: what the stations say of relays holds for 2,700 seconds.
 MOST_PERIODS = 7
